@@ -1,0 +1,6 @@
+-- Laws that the other crates share.
+pub mod Integers
+pub mod Columns
+pub mod Sums
+pub mod Laid
+pub mod Trips

@@ -1,0 +1,6 @@
+-- Whole numbers, columns of them, and their bytes.
+pub mod Choice
+pub mod Range
+pub mod Column
+pub mod Sum
+pub mod Bytes
