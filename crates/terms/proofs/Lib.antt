@@ -1,0 +1,3 @@
+-- Laws of replies and refusals.
+pub mod Replies
+pub mod Same

@@ -1,0 +1,62 @@
+-- Two refusals with one number and one place are one refusal: the number leads back to its reason.
+use Prim.Native.Nat.{ℕ}
+use mathlib.Core.Path.{_≡_, refl, sym, ap, _∙_}
+use mathlib.Core.List.{List, [], _∷_}
+use lib.ListN.{getD}
+use Rattle.terms.specs.Reply.{Reply, refused}
+use Rattle.terms.specs.Refusals.{numberOf, refusal}
+use Rattle.terms.specs.declared.refusal.Why.{Why}
+use Rattle.terms.specs.declared.refusal.Why.the-variants as W
+use Rattle.terms.specs.declared.refusal.Refusal.{Refusal}
+
+-- the reasons by their numbers; there is no number 0
+reasons : List Why
+reasons =
+    W.CutShort
+    ∷ W.CutShort
+    ∷ W.Kind
+    ∷ W.Quarters
+    ∷ W.Quarter
+    ∷ W.UnitCount
+    ∷ W.UnitNumber
+    ∷ W.Flag
+    ∷ W.Range
+    ∷ W.Crossed
+    ∷ W.PositionAge
+    ∷ W.MarginAge
+    ∷ W.Room
+    ∷ W.BlockOrder
+    ∷ W.EndCount
+    ∷ W.Columns
+    ∷ []
+
+reasonOf : ℕ → Why
+reasonOf k = getD reasons k W.CutShort
+
+back : (w : Why) → reasonOf (numberOf w) ≡ w
+unfolding reasonOf reasons
+back W.CutShort = refl
+back W.Kind = refl
+back W.Quarters = refl
+back W.Quarter = refl
+back W.UnitCount = refl
+back W.UnitNumber = refl
+back W.Flag = refl
+back W.Range = refl
+back W.Crossed = refl
+back W.PositionAge = refl
+back W.MarginAge = refl
+back W.Room = refl
+back W.BlockOrder = refl
+back W.EndCount = refl
+back W.Columns = refl
+
+pub same-why : (v w : Why) → numberOf v ≡ numberOf w → v ≡ w
+same-why v w e = sym (back v) ∙ ap reasonOf e ∙ back w
+
+pub same-refusal : {A : Type 0} (r q : Refusal) → _≡_ {A = Reply A} (refusal r) (refusal q) → r ≡ q
+same-refusal r q e =
+    let n : numberOf (r .why) ≡ numberOf (q .why) = cc in
+    let p : r .place ≡ q .place = cc in
+    let w : r .why ≡ q .why = same-why (r .why) (q .why) n in
+    ap {B = Refusal} (λ (v : Why). record { why = v; place = r .place }) w ∙ ap {B = Refusal} (λ (k : ℕ). record { why = q .why; place = k }) p

@@ -1,0 +1,21 @@
+-- "Quantities and signs", and the words of "The steps": classes and directions.
+use Prim.Native.Nat.{ℕ}
+use mathlib.Core.Bool.{Bool}
+use lib.Dec.{eqb}
+use lib.IntN.{ℤ, pos, natAbs}
+use lib.Signed.{ltZ}
+use Rattle.numbers.specs.Choice.{pick}
+use Rattle.terms.specs.declared.quantity.Direction.{Direction}
+use Rattle.terms.specs.declared.quantity.Direction.the-variants.{Injections, Withdrawals}
+
+-- class 0 is not enabled for the Integrated Scheduling Process, class 1 is
+abbrev pub notEnabled : ℕ → Bool
+notEnabled class = eqb class 0
+
+abbrev pub enabled : ℕ → Bool
+enabled class = eqb class 1
+
+-- the size of a nomination in a direction: an injection is above zero, a withdrawal below
+abbrev pub sizeIn : Direction → ℤ → ℕ
+sizeIn Injections n = pick (ltZ (pos 0) n) (natAbs n) 0
+sizeIn Withdrawals n = pick (ltZ n (pos 0)) (natAbs n) 0

@@ -1,0 +1,3 @@
+// The words of the paper: positions and nominations, classes and directions, refusals.
+pub mod quantity;
+pub mod refusal;

@@ -1,0 +1,65 @@
+// Quantities with their signs, and what a class byte says.
+ghost use mathlib.Core.Path.{_≡_};
+ghost use lib.IntN.{negℤ, natAbs};
+ghost use Rattle.numbers.specs.Range.{Within};
+ghost use Rattle.terms.specs.Quantities.{notEnabled, enabled, sizeIn};
+
+// Whole kWh, negative for a sale, positive for a purchase.
+pub struct Position(pub i32);
+
+// Whole kWh, positive for an injection, negative for a withdrawal.
+pub struct Nomination(pub i32);
+
+impl Position {
+    // The one place where a position becomes a nomination: a sale of 500 matches a nomination of +500.
+    pub fn nominated(self) -> Nomination
+        requires { ⌜ Within 64000000 (self .0) ⌝ }
+        ensures { λ r. ⌜ r .0 ≡ negℤ (self .0) ⌝ }
+    {
+        Nomination(-self.0)
+    }
+}
+
+// Class 0: not enabled for the Integrated Scheduling Process.
+pub fn not_enabled(class: u8) -> bool
+    ensures { λ r. ⌜ r ≡ notEnabled class ⌝ }
+{
+    class == 0
+}
+
+// Class 1: enabled for it.
+pub fn enabled(class: u8) -> bool
+    ensures { λ r. ⌜ r ≡ enabled class ⌝ }
+{
+    class == 1
+}
+
+// What step 2 cuts.
+pub enum Direction {
+    Injections,
+    Withdrawals,
+}
+
+impl Direction {
+    // The size of a nomination in the direction, 0 where it runs the other way.
+    pub fn size(self, n: i32) -> u32
+        ensures { λ r. ⌜ r ≡ sizeIn self n ⌝ }
+    {
+        match self {
+            Direction::Injections => {
+                if 0 < n {
+                    numbers::signed::magnitude(n)
+                } else {
+                    0
+                }
+            }
+            Direction::Withdrawals => {
+                if n < 0 {
+                    numbers::signed::magnitude(n)
+                } else {
+                    0
+                }
+            }
+        }
+    }
+}

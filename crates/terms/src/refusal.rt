@@ -1,0 +1,86 @@
+// Refusals: why, and where.
+ghost use mathlib.Core.Path.{_≡_};
+ghost use Rattle.terms.specs.Refusals.{numberOf, whyOf};
+
+// The reasons for a refusal, in the order of their numbers, 1 to 15.
+pub enum Why {
+    CutShort,
+    Kind,
+    Quarters,
+    Quarter,
+    UnitCount,
+    UnitNumber,
+    Flag,
+    Range,
+    Crossed,
+    PositionAge,
+    MarginAge,
+    Room,
+    BlockOrder,
+    EndCount,
+    Columns,
+}
+
+impl Why {
+    pub fn number(self) -> u8
+        ensures { λ r. ⌜ r ≡ numberOf self ⌝ }
+    {
+        match self {
+            Why::CutShort => 1,
+            Why::Kind => 2,
+            Why::Quarters => 3,
+            Why::Quarter => 4,
+            Why::UnitCount => 5,
+            Why::UnitNumber => 6,
+            Why::Flag => 7,
+            Why::Range => 8,
+            Why::Crossed => 9,
+            Why::PositionAge => 10,
+            Why::MarginAge => 11,
+            Why::Room => 12,
+            Why::BlockOrder => 13,
+            Why::EndCount => 14,
+            Why::Columns => 15,
+        }
+    }
+}
+
+pub struct Refusal {
+    pub why: Why,
+    pub place: usize,
+}
+
+// What can be wrong with a unit, field by field.
+pub enum Fault {
+    Number,
+    Class,
+    Coincide,
+    Nominated,
+    NotNominated,
+    N,
+    Pc,
+    StepDown,
+    StepUp,
+    Crossed,
+    Age,
+}
+
+impl Fault {
+    pub fn why(self) -> Why
+        ensures { λ r. ⌜ r ≡ whyOf self ⌝ }
+    {
+        match self {
+            Fault::Number => Why::UnitNumber,
+            Fault::Class => Why::Flag,
+            Fault::Coincide => Why::Flag,
+            Fault::Nominated => Why::Flag,
+            Fault::NotNominated => Why::Flag,
+            Fault::N => Why::Range,
+            Fault::Pc => Why::Range,
+            Fault::StepDown => Why::Range,
+            Fault::StepUp => Why::Range,
+            Fault::Crossed => Why::Crossed,
+            Fault::Age => Why::MarginAge,
+        }
+    }
+}
