@@ -1,3 +1,4 @@
 -- Laws of replies and refusals.
 pub mod Replies
+pub mod Scan
 pub mod Same

@@ -5,15 +5,15 @@ use lib.Dec.{eqb}
 use lib.IntN.{ℤ, pos, natAbs}
 use lib.Signed.{ltZ}
 use Rattle.numbers.specs.Choice.{pick}
+use Rattle.terms.specs.declared.quantity.Standing.{Standing}
+use Rattle.terms.specs.declared.quantity.Standing.the-variants.{NotEnabled, Enabled}
 use Rattle.terms.specs.declared.quantity.Direction.{Direction}
 use Rattle.terms.specs.declared.quantity.Direction.the-variants.{Injections, Withdrawals}
 
 -- class 0 is not enabled for the Integrated Scheduling Process, class 1 is
-abbrev pub notEnabled : ℕ → Bool
-notEnabled class = eqb class 0
-
-abbrev pub enabled : ℕ → Bool
-enabled class = eqb class 1
+abbrev pub standing : Standing → ℕ → Bool
+standing NotEnabled class = eqb class 0
+standing Enabled class = eqb class 1
 
 -- the size of a nomination in a direction: an injection is above zero, a withdrawal below
 abbrev pub sizeIn : Direction → ℤ → ℕ

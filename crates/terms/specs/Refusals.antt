@@ -1,11 +1,16 @@
 -- "Numbers given back": the paper's number of each reason, and of each fault of a unit.
-use Prim.Native.Nat.{ℕ}
-use Rattle.terms.specs.Reply.{Reply, refused}
+use Prim.Native.Nat.{ℕ, zero, suc}
+use mathlib.Core.Bool.{Bool, true, false}
+use Rattle.terms.specs.Reply.{Reply, is, refused}
 use Rattle.terms.specs.declared.refusal.Why.{Why}
 use Rattle.terms.specs.declared.refusal.Why.the-variants as W
 use Rattle.terms.specs.declared.refusal.Refusal.{Refusal}
 use Rattle.terms.specs.declared.refusal.Fault.{Fault}
 use Rattle.terms.specs.declared.refusal.Fault.the-variants as F
+use Rattle.terms.specs.declared.refusal.Answer.{Answer}
+use Rattle.terms.specs.declared.refusal.Answer.the-variants as A
+use Rattle.terms.specs.declared.refusal.Checked.{Checked}
+use Rattle.terms.specs.declared.refusal.Checked.the-variants.{Fine, Faulty}
 
 abbrev pub numberOf : Why → ℕ
 numberOf W.CutShort = 1
@@ -28,6 +33,15 @@ numberOf W.Columns = 15
 abbrev pub refusal : {A : Type 0} → Refusal → Reply A
 refusal r = refused (numberOf (r .why)) (r .place)
 
+-- an answer as a reply, and the refusal of an answer that is one
+abbrev pub answer : Answer → Reply ℕ
+answer (A.Is n) = is n
+answer (A.Refused r) = refusal r
+
+abbrev pub refusalOf : Answer → Refusal
+refusalOf (A.Is n) = record { why = W.Kind; place = 0 }
+refusalOf (A.Refused r) = r
+
 -- why a fault of a unit is refused
 abbrev pub whyOf : Fault → Why
 whyOf F.Number = W.UnitNumber
@@ -41,3 +55,18 @@ whyOf F.StepDown = W.Range
 whyOf F.StepUp = W.Range
 whyOf F.Crossed = W.Crossed
 whyOf F.Age = W.MarginAge
+
+-- the fault, unless the test holds: the first test that fails ends the checks of a unit
+unfoldable pub check : Bool → Fault → Checked → Checked
+check true fault rest = rest
+check false fault rest = Faulty fault
+
+-- what comes after a unit that passes; the refusal of one that does not, at the place of its fault
+unfoldable pub passed : {A : Type 0} → (Fault → ℕ) → Checked → Reply A → Reply A
+passed place Fine rest = rest
+passed place (Faulty fault) rest = refused (numberOf (whyOf fault)) (place fault)
+
+-- units given as columns, from the one of index i on: the first fault is refused at its unit's index, and else their count is told
+unfoldable pub unitsFrom : (ℕ → Checked) → ℕ → ℕ → Reply ℕ
+unitsFrom checks i zero = is i
+unitsFrom checks i (suc left) = passed (λ _. i) (checks i) (unitsFrom checks (suc i) left)

@@ -1,8 +1,8 @@
 // Quantities with their signs, and what a class byte says.
 ghost use mathlib.Core.Path.{_≡_};
-ghost use lib.IntN.{negℤ, natAbs};
+ghost use lib.IntN.{negℤ};
 ghost use Rattle.numbers.specs.Range.{Within};
-ghost use Rattle.terms.specs.Quantities.{notEnabled, enabled, sizeIn};
+ghost use Rattle.terms.specs.Quantities.{standing, sizeIn};
 
 // Whole kWh, negative for a sale, positive for a purchase.
 pub struct Position(pub i32);
@@ -20,18 +20,22 @@ impl Position {
     }
 }
 
-// Class 0: not enabled for the Integrated Scheduling Process.
-pub fn not_enabled(class: u8) -> bool
-    ensures { λ r. ⌜ r ≡ notEnabled class ⌝ }
-{
-    class == 0
+// How a unit stands to the Integrated Scheduling Process.
+pub enum Standing {
+    NotEnabled,
+    Enabled,
 }
 
-// Class 1: enabled for it.
-pub fn enabled(class: u8) -> bool
-    ensures { λ r. ⌜ r ≡ enabled class ⌝ }
-{
-    class == 1
+impl Standing {
+    // Whether a unit of this class stands so: class 0 is not enabled, class 1 is.
+    pub fn holds(self, class: u8) -> bool
+        ensures { λ r. ⌜ r ≡ standing self class ⌝ }
+    {
+        match self {
+            Standing::NotEnabled => class == 0,
+            Standing::Enabled => class == 1,
+        }
+    }
 }
 
 // What step 2 cuts.

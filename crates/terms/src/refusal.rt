@@ -1,6 +1,6 @@
 // Refusals: why, and where.
 ghost use mathlib.Core.Path.{_≡_};
-ghost use Rattle.terms.specs.Refusals.{numberOf, whyOf};
+ghost use Rattle.terms.specs.Refusals.{numberOf, whyOf, refusalOf};
 
 // The reasons for a refusal, in the order of their numbers, 1 to 15.
 pub enum Why {
@@ -81,6 +81,33 @@ impl Fault {
             Fault::StepUp => Why::Range,
             Fault::Crossed => Why::Crossed,
             Fault::Age => Why::MarginAge,
+        }
+    }
+}
+
+// Whether a unit passes its checks, or its first fault.
+pub enum Checked {
+    Fine,
+    Faulty(Fault),
+}
+
+// A number, such as a count or a length, or a refusal.
+pub enum Answer {
+    Is(usize),
+    Refused(Refusal),
+}
+
+impl Answer {
+    // The refusal of an answer that is one: `let .. else` does not bind it.
+    pub fn refusal(self) -> Refusal
+        ensures { λ r. ⌜ r ≡ refusalOf self ⌝ }
+    {
+        match self {
+            Answer::Is(_) => Refusal {
+                why: Why::Kind,
+                place: 0,
+            },
+            Answer::Refused(r) => r,
         }
     }
 }
