@@ -4,7 +4,8 @@ ghost use mathlib.Core.List.{[], _∷_};
 ghost use Prim.Native.Nat.{_+_, _≤_, _<_};
 ghost use lib.ListN.{length};
 ghost use Rattle.numbers.specs.Bytes.{byteAt, be16, be32, bytes16, bytes32, signed32, bits32, laidAt, Field};
-use crate::signed::{from_bits, to_bits};
+use crate::signed::from_bits;
+use crate::signed::to_bits;
 
 // A byte, widened so that its callers know it is below 256.
 fn byte_at(s: &[u8], at: usize) -> u32

@@ -1,4 +1,5 @@
 -- Laws of replies and refusals.
 pub mod Replies
+pub mod Passing
 pub mod Scan
 pub mod Same

@@ -2,3 +2,4 @@
 pub mod Quantities
 pub mod Reply
 pub mod Refusals
+pub mod Checks

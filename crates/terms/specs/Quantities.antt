@@ -1,8 +1,8 @@
--- "Quantities and signs", and the words of "The steps": classes and directions.
+-- "Quantities and signs", and the words of "The steps": classes, directions, the considered nomination.
 use Prim.Native.Nat.{ℕ}
-use mathlib.Core.Bool.{Bool}
+use mathlib.Core.Bool.{Bool, not, _&&_}
 use lib.Dec.{eqb}
-use lib.IntN.{ℤ, pos, natAbs}
+use lib.IntN.{ℤ, pos, negℤ, natAbs}
 use lib.Signed.{ltZ}
 use Rattle.numbers.specs.Choice.{pick}
 use Rattle.terms.specs.declared.quantity.Standing.{Standing}
@@ -19,3 +19,11 @@ standing Enabled class = eqb class 1
 abbrev pub sizeIn : Direction → ℤ → ℕ
 sizeIn Injections n = pick (ltZ (pos 0) n) (natAbs n) 0
 sizeIn Withdrawals n = pick (ltZ n (pos 0)) (natAbs n) 0
+
+-- a nomination is implicit, and taken: not nominated, and BRP and BSP coincide
+abbrev pub implicit : ℕ → ℕ → Bool
+implicit nominated coincide = not (eqb nominated 1) && eqb coincide 1
+
+-- the considered nomination n0: N where nominated, otherwise -PC where BRP and BSP coincide, else 0
+abbrev pub consideredOf : ℕ → ℕ → ℤ → ℤ → ℤ
+consideredOf nominated coincide n pc = pick (eqb nominated 1) n (pick (eqb coincide 1) (negℤ pc) (pos 0))

@@ -2,7 +2,7 @@
 ghost use mathlib.Core.Path.{_≡_};
 ghost use lib.IntN.{negℤ};
 ghost use Rattle.numbers.specs.Range.{Within};
-ghost use Rattle.terms.specs.Quantities.{standing, sizeIn};
+ghost use Rattle.terms.specs.Quantities.{standing, sizeIn, implicit, consideredOf};
 
 // Whole kWh, negative for a sale, positive for a purchase.
 pub struct Position(pub i32);
@@ -66,4 +66,28 @@ impl Direction {
             }
         }
     }
+}
+
+// The nomination that the checks start from.
+pub fn considered(nominated: u8, coincide: u8, n: Nomination, pc: Position) -> Nomination
+    requires { ⌜ Within 1000000 (pc .0) ⌝ }
+    ensures { λ r. ⌜ r .0 ≡ consideredOf nominated coincide (n .0) (pc .0) ⌝ }
+{
+    if nominated == 1 {
+        return n;
+    }
+    if coincide == 1 {
+        return pc.nominated();
+    }
+    Nomination(0)
+}
+
+// Whether a nomination is implicit, and taken.
+pub fn is_implicit(nominated: u8, coincide: u8) -> bool
+    ensures { λ r. ⌜ r ≡ implicit nominated coincide ⌝ }
+{
+    if nominated == 1 {
+        return false;
+    }
+    coincide == 1
 }

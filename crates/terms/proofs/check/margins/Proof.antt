@@ -1,0 +1,33 @@
+use mathlib.Core.Path.{_≡_}
+use mathlib.Core.Bool.{true, false}
+use lib.Signed.{ltZ, leZ}
+use mir.Syntax.{w32}
+use mir.Val.{SFits}
+use mir.Facts.{toZ-ofZ}
+use Rattle.numbers.proofs.Integers.{zarith, plain-lt}
+use Rattle.terms.specs.Refusals.{check}
+use Rattle.terms.proofs.check.margins.Statement.{statement}
+use Rattle.terms.proofs.check.margins.Tie as tie
+use Rattle.terms.proofs.check.margins.Reads as reads
+use Rattle.terms.proofs.check.margins.Lts as lts
+
+-- src/check.rt:41:9
+returns : tie.Need-returns
+unfolding check
+returns c =
+    let s = c .before in
+    let t : ltZ (s .args .step-up) (s .args .step-down) ≡ true = plain-lt (s .fits .step-up) (s .fits .step-down) (c .if1 .taken) in
+    let l : leZ (s .args .step-down) (s .args .step-up) ≡ false = omega zarith in
+    simp l
+
+-- src/check.rt:37:1
+returns-2 : tie.Need-returns-2
+unfolding check
+returns-2 c =
+    let s = c .before in
+    let t : ltZ (s .args .step-up) (s .args .step-down) ≡ false = plain-lt (s .fits .step-up) (s .fits .step-down) (c .if1 .left) in
+    let l : leZ (s .args .step-down) (s .args .step-up) ≡ true = omega zarith in
+    simp l
+
+pub margins-spec : {M : Type 1} → statement M
+margins-spec = tie.close (tie.spec returns returns-2)
