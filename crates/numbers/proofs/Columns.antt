@@ -1,13 +1,13 @@
 -- What a loop that fills a column from the front needs of it: its length, its entries, and one store more.
+use Prim.Native.Nat.{ℕ, zero, suc, _+_, _≤_, _<_}
 use mathlib.Core.Path.{_≡_, refl, sym, ap, _∙_, subst}
 use mathlib.Core.List.{List, [], _∷_, _++_, append-assoc, append-nil}
-use Prim.Native.Nat.{ℕ, zero, suc, _+_, _-_, _≤_, _<_}
 use native.Mathlib.Nat.{not-suc-le-zero}
 use native.Mathlib.Decide.{decLt}
 use native.Mathlib.Numerals.{add-one}
 use native.Mathlib.Omega.{arith}
 use lib.IntN.{ℤ, pos}
-use lib.ListN.{length, getD, set, drop, length-append, length-drop, List·getD-append, List·getD-eq-default}
+use lib.ListN.{length, getD, set, drop, length-append, List·getD-append, List·getD-eq-default}
 use lib.Seq.{drop-cons, drop-length, set-at, getD-at, getD-set-same, getD-set-other, ext-getD}
 use Rattle.numbers.specs.Range.{Within}
 use Rattle.numbers.specs.Column.{column, at, AllWithin}
@@ -63,6 +63,10 @@ module _ {X : Type 0} (f : ℕ → X) where
       go (no m) =
           let q : j ≡ i = omega arith in
           ap (λ (k : ℕ). getD (set l i v) k d) q ∙ getD-set-same l i v d il ∙ e ∙ ap f (sym q)
+
+-- a list is the column of its entries
+pub column-self : {X : Type 0} (d : X) (l : List X) → l ≡ column (length l) (λ i. getD l i d)
+column-self d l = is-column (λ i. getD l i d) d (length l) l refl (λ i _. refl)
 
 pub column-ext : {X : Type 0} (f g : ℕ → X) (n : ℕ) → ((k : ℕ) → k < n → f k ≡ g k) → column n f ≡ column n g
 column-ext f g n h = is-column g (f 0) n (column n f) (column-length f n) (λ k l. column-at f n k (f 0) l ∙ h k l)

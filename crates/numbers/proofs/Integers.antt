@@ -1,21 +1,21 @@
 -- Signed linear arithmetic by omega: every ℤ is `pp z - nn z`, two naturals of which one is 0, and each statement about ℤ is one about those.
 -- Tests, equations and ranges go by rules (the set `zarith`); a sum, a difference or a negation by a fact that the call lists (`plus a b`, `minus a b`, `neg a`).
+-- the part above zero, and the part below
+use Prim.Native.Nat.{ℕ, zero, suc, _+_, _-_, _^_, _≤_, _<_, max}
 use mathlib.Core.Path.{_≡_, refl, sym, ap, _∙_, subst}
-use mathlib.Core.Bool.{Bool, true, false, not, cond, _&&_}
-use Prim.Native.Nat.{ℕ, zero, suc, _+_, _-_, _*_, _^_, _≤_, _<_, max}
+use mathlib.Core.Bool.{Bool, true, false, cond, _&&_}
 use native.Mathlib.Omega.{arith}
-use borrow.Author.Tests.{ltb-true, ltb-false, leb-true, leb-false, lt-ltb, le-ltb, le-leb, lt-leb}
-use lib.Dec.{T, ltb, leb}
+use borrow.Author.Tests.{eqb-true, eqb-false, ltb-true, ltb-false, leb-true, leb-false, lt-ltb, le-ltb, le-leb, lt-leb}
+use lib.Dec.{T, ltb, eqb}
 use lib.IntN.{ℤ, pos, negsuc, negℤ, natAbs, subℕ, _+ℤ_, _-ℤ_}
-use lib.Signed.{ltZ, leZ, mag, nonNeg, _≤ℤ_, _<ℤ_}
-use Rattle.numbers.specs.Range.{Within}
-use Rattle.numbers.specs.Choice.{pick, eqZ}
+use lib.Signed.{ltZ, leZ, nonNeg}
 use mir.Syntax.{Width, w8, w16, w32, w64, w128}
 use mir.Val.{SFits, bits, hbits, sel, toZ, ofZ}
 use mir.ValLaws.{toZ-ofZ}
 use mir.Facts.{sfits-lit}
+use Rattle.numbers.specs.Range.{Within}
+use Rattle.numbers.specs.Choice.{eqZ}
 
--- the part above zero, and the part below
 abbrev pub pp : ℤ → ℕ
 pp (pos n) = n
 pp (negsuc n) = 0
@@ -264,3 +264,10 @@ neZ-bits w a b n = eqZ-no a b (λ e. n (ap (ofZ w) e))
 -- the other way round, where the code's test held
 pub plain-asym : {w : Width} {x y : ℤ} (f : SFits w x) (g : SFits w y) → ltZ (toZ w (ofZ w x)) (toZ w (ofZ w y)) ≡ true → ltZ y x ≡ false
 plain-asym {w} {x} {y} f g e = asym x y (plain-lt f g e)
+
+-- the same, as one equation of tests
+pub eqZ-test : (w : Width) (a b : ℤ) → SFits w a → SFits w b → eqb (ofZ w a) (ofZ w b) ≡ eqZ a b
+eqZ-test w a b f g =
+    by-test (eqb (ofZ w a) (ofZ w b)) (λ t. t ≡ eqZ a b)
+    (λ h. sym (eqZ-bits w a b f g (eqb-true (ofZ w a) (ofZ w b) h)))
+    (λ h. sym (neZ-bits w a b (eqb-false (ofZ w a) (ofZ w b) h)))

@@ -1,5 +1,6 @@
 -- Laws that the other crates share.
 pub mod Integers
+pub mod Choices
 pub mod Columns
 pub mod Sums
 pub mod Laid

@@ -4,18 +4,19 @@ use mathlib.Core.Path.{_≡_, refl, sym, _∙_, ap, subst}
 use mathlib.Core.Bool.{Bool, true, false}
 use mathlib.Core.List.{List, [], _∷_, _++_}
 use native.Mathlib.Omega.{arith}
-use native.Mathlib.Nat.{le-refl, le-of-eq, le-of-suc-le-suc, not-suc-le-zero}
+use native.Mathlib.Nat.{add-zero, add-suc, le-refl, le-of-eq, le-of-suc-le-suc, not-suc-le-zero}
 use native.Mathlib.Numerals.{add-one}
 use native.Mathlib.Decide.{decLt}
+use borrow.Author.Tests.{lt-ltb, le-ltb}
 use lib.Dec.{ltb}
-use lib.IntN.{ℤ, pos, _+ℤ_, _-ℤ_, +ℤ-assoc, +ℤ-idl, +ℤ-idr}
+use lib.IntN.{ℤ, pos, _+ℤ_, +ℤ-assoc, +ℤ-idl, +ℤ-idr}
 use lib.ListN.{length, getD, take}
 use lib.Seq.{take-length}
-use borrow.Author.Tests.{lt-ltb, le-ltb}
 use Rattle.numbers.specs.Range.{Within}
 use Rattle.numbers.specs.Column.{column, at, AllWithin}
 use Rattle.numbers.specs.Sum.{sum, sumZ, sumTo, bit, count}
-use Rattle.numbers.proofs.Integers.{zarith, plus, minus}
+use Rattle.numbers.proofs.Integers.{zarith, pp, nn, Diff, plus}
+use Rattle.numbers.proofs.Columns.{column-self}
 
 pub sumTo-cong : (n : ℕ) (f g : ℕ → ℕ) → ((i : ℕ) → i < n → f i ≡ g i) → sumTo n f ≡ sumTo n g
 unfolding sumTo
@@ -115,6 +116,12 @@ pub count-one : (n : ℕ) (p : ℕ → Bool) → count (n + 1) p ≡ count n p +
 unfolding count
 count-one n p = sumTo-one n (λ (i : ℕ). bit (p i))
 
+-- the first i indices, and the m after them
+pub count-split : (i m : ℕ) (p : ℕ → Bool) → count (i + m) p ≡ count i p + count m (λ (j : ℕ). p (i + j))
+unfolding count sumTo
+count-split i zero p = rw add-zero (sym (add-zero (count i p)))
+count-split i (suc m) p = rw add-suc (omega (arith, count-split i m p))
+
 -- the sum up to the end is the list's
 pub sumTo-end : (s : List ℕ) (i : ℕ) → i ≡ length s → sumTo i (λ (k : ℕ). getD s k 0) ≡ sum s
 sumTo-end s i e = ap (λ (m : ℕ). sumTo m (λ (k : ℕ). getD s k 0)) e ∙ sumTo-list s
@@ -141,6 +148,12 @@ pub sum-bound : (s : List ℕ) (b : ℕ) → ((i : ℕ) → getD s i 0 ≤ b) �
 unfolding sum
 sum-bound [] b h = omega arith
 sum-bound (x ∷ s) b h = omega (arith, h 0, sum-bound s b (λ i. h (suc i)))
+
+pub sum-entry : (s : List ℕ) (i : ℕ) → getD s i 0 ≤ sum s
+unfolding sum
+sum-entry [] i = omega arith
+sum-entry (x ∷ s) zero = omega arith
+sum-entry (x ∷ s) (suc i) = omega (arith, sum-entry s i)
 
 -- ---- signed columns
 sum-suc : (l : List ℤ) (i : ℕ) → i < length l → sumZ (take (suc i) l) ≡ sumZ (take i l) +ℤ at l i
@@ -173,3 +186,15 @@ sumZ-snoc (x ∷ l) z = ap (λ (y : ℤ). x +ℤ y) (sumZ-snoc l z) ∙ sym (+�
 pub sumZ-column : (f : ℕ → ℤ) (n : ℕ) → sumZ (column (suc n) f) ≡ sumZ (column n f) +ℤ f n
 unfolding column
 sumZ-column f n = sumZ-snoc (column n f) (f n)
+
+-- a signed sum is what lies above zero less what lies below
+sumZ-parts : (f : ℕ → ℤ) (n : ℕ) → Diff (sumZ (column n f)) (sumTo n (λ i. pp (f i))) (sumTo n (λ i. nn (f i)))
+unfolding sumTo sumZ column
+sumZ-parts f zero = omega zarith
+sumZ-parts f (suc n) = rw (sumZ-column f n) (omega (zarith, sumZ-parts f n, plus (sumZ (column n f)) (f n)))
+
+pub sum-sides : (l : List ℤ) → Diff (sumZ l) (sumTo (length l) (λ i. pp (at l i))) (sumTo (length l) (λ i. nn (at l i)))
+sum-sides l =
+    subst (λ (x : List ℤ). Diff (sumZ x) (sumTo (length l) (λ i. pp (at l i))) (sumTo (length l) (λ i. nn (at l i))))
+    (sym (column-self (pos 0) l))
+    (sumZ-parts (at l) (length l))

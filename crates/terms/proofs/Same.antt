@@ -1,15 +1,15 @@
 -- Two refusals with one number and one place are one refusal: the number leads back to its reason.
+-- the reasons by their numbers; there is no number 0
 use Prim.Native.Nat.{ℕ}
 use mathlib.Core.Path.{_≡_, refl, sym, ap, _∙_}
 use mathlib.Core.List.{List, [], _∷_}
 use lib.ListN.{getD}
-use Rattle.terms.specs.Reply.{Reply, refused}
+use Rattle.terms.specs.Reply.{Reply}
 use Rattle.terms.specs.Refusals.{numberOf, refusal}
 use Rattle.terms.specs.declared.refusal.Why.{Why}
-use Rattle.terms.specs.declared.refusal.Why.the-variants as W
 use Rattle.terms.specs.declared.refusal.Refusal.{Refusal}
+use Rattle.terms.specs.declared.refusal.Why.the-variants as W
 
--- the reasons by their numbers; there is no number 0
 reasons : List Why
 reasons =
     W.CutShort

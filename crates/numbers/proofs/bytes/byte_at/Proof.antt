@@ -1,20 +1,16 @@
-use borrow.Author.Needs.{needs}
+-- `byte_at` meets its contract: what a slice of bytes holds is below 256.
 use mathlib.Core.Path.{refl}
 use native.Mathlib.Omega.{arith}
-use Rattle.numbers.proofs.bytes.byte_at.Statement.{statement}
+use borrow.Author.Needs.{needs}
 use Rattle.numbers.proofs.bytes.byte_at.Tie as tie
-use Rattle.numbers.proofs.bytes.byte_at.Reads as reads
-use Rattle.numbers.proofs.bytes.byte_at.Lts as lts
+use Rattle.numbers.proofs.bytes.byte_at.Statement.{statement}
 
--- src/be.rt:12:5
 shared-slice-read-result : tie.Need-shared-slice-read-result
 shared-slice-read-result c = search needs
 
--- src/be.rt:12:5
 cast-result : tie.Need-cast-result
 cast-result c = omega (arith, c .shared-slice-known .given (c .before .args .at))
 
--- src/be.rt:8:1
 returns : tie.Need-returns
 returns c = record { is = refl; below = omega (arith, c .shared-slice-known .given (c .before .args .at)) }
 

@@ -1,29 +1,22 @@
-use mathlib.Core.Path.{_∙_, ap}
+-- `lay_i32` meets its contract, which is that of its two callees.
 use Prim.Native.Nat.{ℕ}
+use mathlib.Core.Path.{_∙_, ap}
+use borrow.Author.Needs.{needs}
 use denote.Ref.{now}
 use mir.Facts.{toZ-ofZ}
 use Rattle.numbers.specs.Bytes.{bytes32, bits32, laidAt}
-use borrow.Author.Needs.{needs}
-use Rattle.numbers.proofs.bytes.lay_i32.Statement.{statement}
 use Rattle.numbers.proofs.bytes.lay_i32.Tie as tie
-use Rattle.numbers.proofs.bytes.lay_i32.Reads as reads
-use Rattle.numbers.proofs.bytes.lay_i32.Lts as lts
-use Rattle.numbers.proofs.bytes.lay_u32.Reads as lay-u32-reads
-use Rattle.numbers.proofs.signed.to_bits.Reads as to-bits-reads
+use Rattle.numbers.proofs.bytes.lay_i32.Statement.{statement}
 
--- src/bytes.rt:69:23
 to-bits-requires : tie.Need-to-bits-requires
 to-bits-requires c κs = search needs
 
--- src/bytes.rt:69:5
 lay-u32-requires : tie.Need-lay-u32-requires
 lay-u32-requires c κs = search needs
 
--- src/bytes.rt:65:1
 same-length : tie.Need-same-length
 same-length c = search needs
 
--- src/bytes.rt:65:1
 returns : tie.Need-returns
 returns c =
     let b = c .before .before in

@@ -1,42 +1,33 @@
+-- `lay_u16` meets its contract: two runs of one byte are one of two.
 use Prim.Native.Nat.{_+_, _/_, _%_}
 use mathlib.Core.Path.{refl}
 use mathlib.Core.List.{[], _∷_}
 use native.Mathlib.Omega.{arith}
+use borrow.Author.Needs.{needs}
 use denote.Ref.{now}
 use Rattle.numbers.specs.Bytes.{bytes16}
 use Rattle.numbers.proofs.Laid.{laid-next}
-use borrow.Author.Needs.{needs}
-use Rattle.numbers.proofs.bytes.lay_u16.Statement.{statement}
 use Rattle.numbers.proofs.bytes.lay_u16.Tie as tie
-use Rattle.numbers.proofs.bytes.lay_u16.Reads as reads
-use Rattle.numbers.proofs.bytes.lay_u16.Lts as lts
-use Rattle.numbers.proofs.bytes.lay_u8.Reads as lay-u8-reads
+use Rattle.numbers.proofs.bytes.lay_u16.Statement.{statement}
 
--- src/bytes.rt:53:22
 cast-lay-u8 : tie.Need-cast-lay-u8
 cast-lay-u8 c = search needs
 
--- src/bytes.rt:53:5
 lay-u8-requires : tie.Need-lay-u8-requires
 lay-u8-requires c κs = search needs
 
--- src/bytes.rt:54:18
 add-lay-u8 : tie.Need-add-lay-u8
 add-lay-u8 c = search needs
 
--- src/bytes.rt:54:26
 cast-lay-u8-2 : tie.Need-cast-lay-u8-2
 cast-lay-u8-2 c = search needs
 
--- src/bytes.rt:54:5
 lay-u8-requires-2 : tie.Need-lay-u8-requires-2
 lay-u8-requires-2 c κs = search needs
 
--- src/bytes.rt:49:1
 same-length : tie.Need-same-length
 same-length c = search needs
 
--- src/bytes.rt:49:1
 returns : tie.Need-returns
 unfolding bytes16
 returns c =

@@ -1,42 +1,32 @@
+-- `lay_u32` meets its contract: two runs of two bytes are one of four.
 use Prim.Native.Nat.{_+_, _/_, _%_}
 use mathlib.Core.Path.{refl}
-use mathlib.Core.List.{[], _∷_}
 use native.Mathlib.Omega.{arith}
+use borrow.Author.Needs.{needs}
 use denote.Ref.{now}
 use Rattle.numbers.specs.Bytes.{bytes16, bytes32}
 use Rattle.numbers.proofs.Laid.{laid-next}
-use borrow.Author.Needs.{needs}
-use Rattle.numbers.proofs.bytes.lay_u32.Statement.{statement}
 use Rattle.numbers.proofs.bytes.lay_u32.Tie as tie
-use Rattle.numbers.proofs.bytes.lay_u32.Reads as reads
-use Rattle.numbers.proofs.bytes.lay_u32.Lts as lts
-use Rattle.numbers.proofs.bytes.lay_u16.Reads as lay-u16-reads
+use Rattle.numbers.proofs.bytes.lay_u32.Statement.{statement}
 
--- src/bytes.rt:61:23
 cast-lay-u16 : tie.Need-cast-lay-u16
 cast-lay-u16 c = search needs
 
--- src/bytes.rt:61:5
 lay-u16-requires : tie.Need-lay-u16-requires
 lay-u16-requires c κs = search needs
 
--- src/bytes.rt:62:19
 add-lay-u16 : tie.Need-add-lay-u16
 add-lay-u16 c = search needs
 
--- src/bytes.rt:62:27
 cast-lay-u16-2 : tie.Need-cast-lay-u16-2
 cast-lay-u16-2 c = search needs
 
--- src/bytes.rt:62:5
 lay-u16-requires-2 : tie.Need-lay-u16-requires-2
 lay-u16-requires-2 c κs = search needs
 
--- src/bytes.rt:57:1
 same-length : tie.Need-same-length
 same-length c = search needs
 
--- src/bytes.rt:57:1
 returns : tie.Need-returns
 unfolding bytes16 bytes32
 returns c =

@@ -1,22 +1,18 @@
+-- `lay_u8` meets its contract: one store is a run of one byte.
 use mathlib.Core.List.{[], _∷_}
+use borrow.Author.Needs.{needs}
 use denote.Ref.{now}
 use lib.Seq.{sets-eq}
 use Rattle.numbers.specs.Bytes.{laidAt}
-use borrow.Author.Needs.{needs}
-use Rattle.numbers.proofs.bytes.lay_u8.Statement.{statement}
 use Rattle.numbers.proofs.bytes.lay_u8.Tie as tie
-use Rattle.numbers.proofs.bytes.lay_u8.Reads as reads
-use Rattle.numbers.proofs.bytes.lay_u8.Lts as lts
+use Rattle.numbers.proofs.bytes.lay_u8.Statement.{statement}
 
--- src/bytes.rt:46:5
 slice-write-room : tie.Need-slice-write-room
 slice-write-room c = search needs
 
--- src/bytes.rt:42:1
 same-length : tie.Need-same-length
 same-length c = search needs
 
--- src/bytes.rt:42:1
 returns : tie.Need-returns
 unfolding laidAt
 returns c =

@@ -1,26 +1,21 @@
-use Rattle.numbers.proofs.Integers.{zarith, plus, minus, abs-z, one-side, read-up, read-down, bits-up, bits-down}
-use mir.Facts.{toZ-ofZ, toZ-pos, sfits-widen}
-use mir.Val.{SFits, toZ, ofZ, hbits}
-use mir.Syntax.{w32, w64}
-use lib.IntN.{ℤ, pos, natAbs, _+ℤ_, _-ℤ_}
-use lib.Signed.{ltZ}
-use native.Mathlib.Omega.{arith}
-use Prim.Native.Nat.{ℕ, _+_, _-_, _^_, _≤_, _<_}
+-- `magnitude` meets its contract: a negative number is turned in 64 bits, where it fits.
 use mathlib.Core.Bool.{true, false}
-use mathlib.Core.Path.{_≡_, refl, sym, ap, _∙_}
+use mathlib.Core.Path.{_≡_}
 use borrow.Author.Needs.{needs}
-use Rattle.numbers.proofs.signed.magnitude.Statement.{statement}
+use lib.IntN.{pos, _-ℤ_}
+use lib.Signed.{ltZ}
+use mir.Facts.{toZ-ofZ, sfits-widen}
+use mir.Val.{SFits}
+use mir.Syntax.{w64}
+use Rattle.numbers.proofs.Integers.{zarith, minus, abs-z, one-side}
 use Rattle.numbers.proofs.signed.magnitude.Tie as tie
-use Rattle.numbers.proofs.signed.magnitude.Reads as reads
-use Rattle.numbers.proofs.signed.magnitude.Lts as lts
+use Rattle.numbers.proofs.signed.magnitude.Statement.{statement}
 
--- src/lib.rt:86:15
 cast-result : tie.Need-cast-result
 cast-result c =
     let f = c .before .fits .z in
     simp toZ-ofZ (sfits-widen tt f)
 
--- src/lib.rt:86:10
 sub-result : tie.Need-sub-result
 sub-result c =
     let z = c .before .args .z in
@@ -28,7 +23,6 @@ sub-result c =
     let g : SFits w64 z = sfits-widen tt f in
     simp toZ-ofZ (omega (zarith, minus (pos 0) z))
 
--- src/lib.rt:86:9
 cast-result-2 : tie.Need-cast-result-2
 cast-result-2 c =
     let z = c .before .args .z in
@@ -38,7 +32,6 @@ cast-result-2 c =
     let t : ltZ z (pos 0) ≡ true = simp toZ-ofZ at (c .if1 .taken) in
     simp toZ-ofZ (omega (zarith, minus (pos 0) z, one-side z, abs-z (pos 0 -ℤ z)))
 
--- src/lib.rt:88:9
 cast-result-3 : tie.Need-cast-result-3
 cast-result-3 c =
     let z = c .before .args .z in
@@ -46,7 +39,6 @@ cast-result-3 c =
     let t : ltZ z (pos 0) ≡ false = simp toZ-ofZ at (c .if1 .left) in
     simp toZ-ofZ (omega (zarith, one-side z, abs-z z))
 
--- src/lib.rt:82:1
 returns : tie.Need-returns
 returns c =
     let z = c .before .args .z in
@@ -55,7 +47,6 @@ returns c =
     let k : SFits w64 (pos 0 -ℤ z) = simp toZ-ofZ at (sub-result c) in
     simp toZ-ofZ (omega (zarith, minus (pos 0) z, one-side z, one-side (pos 0 -ℤ z), abs-z z, abs-z (pos 0 -ℤ z)))
 
--- src/lib.rt:82:1
 returns-2 : tie.Need-returns-2
 returns-2 c = search needs
 

@@ -1,21 +1,19 @@
-use Rattle.numbers.proofs.Integers.{zarith, plus}
-use Rattle.numbers.proofs.Sums.{sum-more, sum-within}
-use Rattle.numbers.specs.Sum.{sumZ}
-use Rattle.numbers.specs.Column.{at}
-use mir.Facts.{toZ-ofZ, sfits-widen}
-use mir.Val.{SFits, toZ, ofZ}
-use mir.Syntax.{w32, w64}
+-- `sum` meets its contract: after i turns the total is the sum of the first i entries, within 1,000,000 for each.
+use Prim.Native.Nat.{_-_, _≤_}
+use mathlib.Core.Path.{_≡_, refl, _∙_}
+use native.Mathlib.Omega.{arith}
+use denote.Ref.{now}
 use lib.Seq.{take-length}
 use lib.ListN.{length, take}
-use lib.IntN.{ℤ, pos, natAbs, _+ℤ_}
-use denote.Ref.{now}
-use native.Mathlib.Omega.{arith}
-use Prim.Native.Nat.{ℕ, _+_, _-_, _≤_, _<_}
-use mathlib.Core.Path.{_≡_, refl, sym, ap, _∙_}
-use Rattle.numbers.proofs.signed.sum.Statement.{statement}
+use mir.Facts.{toZ-ofZ}
+use mir.Val.{SFits, ofZ}
+use mir.Syntax.{w32}
+use Rattle.numbers.specs.Sum.{sumZ}
+use Rattle.numbers.specs.Column.{at}
+use Rattle.numbers.proofs.Integers.{zarith, plus}
+use Rattle.numbers.proofs.Sums.{sum-more, sum-within}
 use Rattle.numbers.proofs.signed.sum.Tie as tie
-use Rattle.numbers.proofs.signed.sum.Reads as reads
-use Rattle.numbers.proofs.signed.sum.Lts as lts
+use Rattle.numbers.proofs.signed.sum.Statement.{statement}
 
 abbrev Inv-loop : tie.InvT-loop
 Inv-loop s total₀ i₀ total i = (i ≤ length s) × (total ≡ ofZ w32 (sumZ (take i s)))
@@ -23,20 +21,16 @@ Inv-loop s total₀ i₀ total i = (i ≤ length s) × (total ≡ ofZ w32 (sumZ 
 abbrev μ-loop : tie.MeasureT-loop
 μ-loop s total₀ i₀ total i = length s - i
 
--- src/lib.rt:60:5
 loop-holds : tie.Need-loop-holds Inv-loop μ-loop
 unfolding sumZ
 loop-holds c = (omega arith, refl)
 
--- src/lib.rt:61:18
 mul-total : tie.Need-mul-total Inv-loop μ-loop
 mul-total c = omega arith
 
--- src/lib.rt:61:18
 shared-slice-copy-out-total : tie.Need-shared-slice-copy-out-total Inv-loop μ-loop
 shared-slice-copy-out-total c = omega arith
 
--- src/lib.rt:61:9
 add-total : tie.Need-add-total Inv-loop μ-loop
 add-total c =
     let b = c .before .before in
@@ -46,15 +40,12 @@ add-total c =
     let g : SFits w32 (sumZ (take (l .i) s)) = omega (zarith, sum-within 1000000 s (b .before .pre .1) (l .i)) in
     rw (l .inv .1) (simp toZ-ofZ (omega (zarith, plus (sumZ (take (l .i) s)) (at s (l .i)), b .before .pre .1 (l .i), sum-within 1000000 s (b .before .pre .1) (l .i))))
 
--- src/lib.rt:62:9
 add-i : tie.Need-add-i Inv-loop μ-loop
 add-i c = omega arith
 
--- src/lib.rt:60:5
 loop-less : tie.Need-loop-less Inv-loop μ-loop
 loop-less c = omega arith
 
--- src/lib.rt:60:5
 loop-again : tie.Need-loop-again Inv-loop μ-loop
 loop-again c =
     let b = c .before .before in
@@ -64,7 +55,6 @@ loop-again c =
     let g : SFits w32 (sumZ (take (l .i) s)) = omega (zarith, sum-within 1000000 s (b .before .pre .1) (l .i)) in
     (omega arith, rw (l .inv .1) (simp (toZ-ofZ, sum-more s (l .i) (omega arith))))
 
--- src/lib.rt:54:1
 returns : tie.Need-returns Inv-loop μ-loop
 returns c =
     let b = c .before in

@@ -1,29 +1,22 @@
-use mathlib.Core.Path.{_≡_, _∙_}
+-- `amounts` meets its contract: each check that passes hands on to the next.
+use borrow.Author.Needs.{needs}
 use mir.Facts.{toZ-ofZ}
 use Rattle.terms.specs.Refusals.{check}
 use Rattle.terms.specs.Checks.{amountChecks}
 use Rattle.terms.specs.declared.refusal.Fault.the-variants as F
 use Rattle.terms.proofs.Passing.{in-range, out-of-range}
-use borrow.Author.Needs.{needs}
-use Rattle.terms.proofs.check.amounts.Statement.{statement}
 use Rattle.terms.proofs.check.amounts.Tie as tie
-use Rattle.terms.proofs.check.amounts.Reads as reads
-use Rattle.terms.proofs.check.amounts.Lts as lts
-use Rattle.terms.proofs.check.margins.Reads as margins-reads
-use Rattle.terms.proofs.check.quantity.Reads as quantity-reads
+use Rattle.terms.proofs.check.amounts.Statement.{statement}
 
--- src/check.rt:50:25
 quantity-requires : tie.Need-quantity-requires
 quantity-requires c κs = search needs
 
 enum-told : tie.Need-enum-told
 enum-told c = search needs
 
--- src/check.rt:51:32
 enum-told-2 : tie.Need-enum-told-2
 enum-told-2 c = search needs
 
--- src/check.rt:51:9
 returns : tie.Need-returns
 unfolding amountChecks check
 returns c =
@@ -31,18 +24,15 @@ returns c =
     let q = out-of-range (s .fits .n) F.N (c .before .before .quantity .ensures) (c .enum-told2 .given .1) in
     simp (q)
 
--- src/check.rt:53:25
 quantity-requires-2 : tie.Need-quantity-requires-2
 quantity-requires-2 c κs = search needs
 
 enum-told-3 : tie.Need-enum-told-3
 enum-told-3 c = search needs
 
--- src/check.rt:54:32
 enum-told-4 : tie.Need-enum-told-4
 enum-told-4 c = search needs
 
--- src/check.rt:54:9
 returns-2 : tie.Need-returns-2
 unfolding amountChecks check
 returns-2 c =
@@ -51,18 +41,15 @@ returns-2 c =
     let q = out-of-range (s .fits .pc) F.Pc (c .before .before .quantity2 .ensures) (c .enum-told4 .given .1) in
     simp (p1, q)
 
--- src/check.rt:56:25
 quantity-requires-3 : tie.Need-quantity-requires-3
 quantity-requires-3 c κs = search needs
 
 enum-told-5 : tie.Need-enum-told-5
 enum-told-5 c = search needs
 
--- src/check.rt:57:32
 enum-told-6 : tie.Need-enum-told-6
 enum-told-6 c = search needs
 
--- src/check.rt:57:9
 returns-3 : tie.Need-returns-3
 unfolding amountChecks check
 returns-3 c =
@@ -72,18 +59,15 @@ returns-3 c =
     let q = out-of-range (s .fits .step-down) F.StepDown (c .before .before .quantity3 .ensures) (c .enum-told6 .given .1) in
     simp (p1, p2, q)
 
--- src/check.rt:59:25
 quantity-requires-4 : tie.Need-quantity-requires-4
 quantity-requires-4 c κs = search needs
 
 enum-told-7 : tie.Need-enum-told-7
 enum-told-7 c = search needs
 
--- src/check.rt:60:32
 enum-told-8 : tie.Need-enum-told-8
 enum-told-8 c = search needs
 
--- src/check.rt:60:9
 returns-4 : tie.Need-returns-4
 unfolding amountChecks check
 returns-4 c =
@@ -94,11 +78,9 @@ returns-4 c =
     let q = out-of-range (s .fits .step-up) F.StepUp (c .before .before .quantity4 .ensures) (c .enum-told8 .given .1) in
     simp (p1, p2, p3, q)
 
--- src/check.rt:62:5
 margins-requires : tie.Need-margins-requires
 margins-requires c κs = search needs
 
--- src/check.rt:47:1
 returns-5 : tie.Need-returns-5
 unfolding amountChecks check
 returns-5 c =

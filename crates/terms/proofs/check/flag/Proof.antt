@@ -1,16 +1,13 @@
+-- `flag` meets its contract, by its test.
 use borrow.Author.Tests.{le-leb, lt-leb}
 use Rattle.terms.specs.Refusals.{check}
-use Rattle.terms.proofs.check.flag.Statement.{statement}
 use Rattle.terms.proofs.check.flag.Tie as tie
-use Rattle.terms.proofs.check.flag.Reads as reads
-use Rattle.terms.proofs.check.flag.Lts as lts
+use Rattle.terms.proofs.check.flag.Statement.{statement}
 
--- src/check.rt:31:9
 returns : tie.Need-returns
 unfolding check
 returns c = simp (le-leb _ _ (c .if1 .taken))
 
--- src/check.rt:27:1
 returns-2 : tie.Need-returns-2
 unfolding check
 returns-2 c = simp (lt-leb _ _ (c .if1 .left))

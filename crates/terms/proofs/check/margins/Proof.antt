@@ -1,17 +1,12 @@
+-- `margins` meets its contract, by its test.
 use mathlib.Core.Path.{_≡_}
 use mathlib.Core.Bool.{true, false}
 use lib.Signed.{ltZ, leZ}
-use mir.Syntax.{w32}
-use mir.Val.{SFits}
-use mir.Facts.{toZ-ofZ}
 use Rattle.numbers.proofs.Integers.{zarith, plain-lt}
 use Rattle.terms.specs.Refusals.{check}
-use Rattle.terms.proofs.check.margins.Statement.{statement}
 use Rattle.terms.proofs.check.margins.Tie as tie
-use Rattle.terms.proofs.check.margins.Reads as reads
-use Rattle.terms.proofs.check.margins.Lts as lts
+use Rattle.terms.proofs.check.margins.Statement.{statement}
 
--- src/check.rt:41:9
 returns : tie.Need-returns
 unfolding check
 returns c =
@@ -20,7 +15,6 @@ returns c =
     let l : leZ (s .args .step-down) (s .args .step-up) ≡ false = omega zarith in
     simp l
 
--- src/check.rt:37:1
 returns-2 : tie.Need-returns-2
 unfolding check
 returns-2 c =

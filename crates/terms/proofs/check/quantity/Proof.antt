@@ -1,23 +1,19 @@
+-- `quantity` meets its contract, by its two tests.
 use mathlib.Core.Path.{_≡_}
 use mathlib.Core.Bool.{true, false}
+use borrow.Author.Needs.{needs}
 use lib.IntN.{pos, negℤ}
 use lib.Signed.{ltZ, leZ}
 use mir.Syntax.{w32}
 use mir.Val.{SFits}
-use mir.Facts.{toZ-ofZ}
 use Rattle.numbers.proofs.Integers.{zarith, plain-lt}
 use Rattle.terms.specs.Refusals.{check}
-use borrow.Author.Needs.{needs}
-use Rattle.terms.proofs.check.quantity.Statement.{statement}
 use Rattle.terms.proofs.check.quantity.Tie as tie
-use Rattle.terms.proofs.check.quantity.Reads as reads
-use Rattle.terms.proofs.check.quantity.Lts as lts
+use Rattle.terms.proofs.check.quantity.Statement.{statement}
 
--- src/check.rt:17:12
 sub-if1 : tie.Need-sub-if1
 sub-if1 c = search needs
 
--- src/check.rt:18:9
 returns : tie.Need-returns
 unfolding check
 returns c =
@@ -28,7 +24,6 @@ returns c =
     let l : leZ (negℤ (pos 1000000)) z ≡ false = omega zarith in
     simp l
 
--- src/check.rt:21:9
 returns-2 : tie.Need-returns-2
 unfolding check
 returns-2 c =
@@ -42,7 +37,6 @@ returns-2 c =
     let l : leZ z (pos 1000000) ≡ false = omega zarith in
     simp (k, l)
 
--- src/check.rt:14:1
 returns-3 : tie.Need-returns-3
 unfolding check
 returns-3 c =

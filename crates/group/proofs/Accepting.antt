@@ -1,0 +1,167 @@
+-- What an accepted group has passed, read back from the reply test by test.
+-- the fields of a unit that passes its checks
+use Prim.Native.Nat.{ℕ, _≤_, _<_}
+use mathlib.Core.Path.{_≡_}
+use mathlib.Core.Bool.{true}
+use mathlib.Core.List.{List}
+use native.Mathlib.Omega.{arith}
+use native.Mathlib.Decide.{decLt}
+use borrow.Author.Tests.{eqb-true, leb-true}
+use lib.Dec.{eqb, leb}
+use lib.IntN.{ℤ, pos, negℤ}
+use lib.ListN.{length, getD, List·getD-eq-default}
+use lib.Signed.{leZ}
+use Rattle.numbers.specs.Range.{Within}
+use Rattle.numbers.specs.Column.{at, AllWithin}
+use Rattle.numbers.proofs.Integers.{zarith, one-side}
+use Rattle.numbers.proofs.Choices.{and-both}
+use Rattle.terms.specs.Reply.{is}
+use Rattle.terms.specs.Refusals.{unitsFrom}
+use Rattle.terms.specs.Checks.{isFlag, inRange, amountChecks}
+use Rattle.terms.specs.declared.refusal.Checked.the-variants.{Fine}
+use Rattle.terms.specs.declared.refusal.Fault.the-variants as F
+use Rattle.terms.proofs.Replies.{need-is, next-is}
+use Rattle.terms.proofs.Passing.{passes}
+use Rattle.terms.proofs.Scan.{all-fine}
+use Rattle.group.specs.Group.{Group, units, n1}
+use Rattle.group.specs.Columns.{unitCheck, unitChecks, lengths, oneLength, countPermitted, sumsOf, judgeOf}
+use Rattle.group.specs.Asked.{Level, Judged, Classed}
+use Rattle.group.specs.declared.judge.Sums.{Sums}
+use Rattle.group.proofs.Ranges.{step1-length, step1-small}
+
+pub record Sound (class : ℕ) (n0 pc stepDown stepUp : ℤ) : Type 0 where
+  pub known : class ≤ 1
+  pub n0-small : Within 1000000 n0
+  pub pc-small : Within 1000000 pc
+  pub down-small : Within 1000000 stepDown
+  pub up-small : Within 1000000 stepUp
+  pub ordered : leZ stepDown stepUp ≡ true
+
+range-small : (z : ℤ) → inRange z ≡ true → Within 1000000 z
+range-small z e =
+    let p = and-both (leZ (negℤ (pos 1000000)) z) (leZ z (pos 1000000)) e in
+    omega (zarith, one-side z)
+
+unit-sound : (class : ℕ) (n0 pc stepDown stepUp : ℤ) → unitCheck class n0 pc stepDown stepUp ≡ Fine → Sound class n0 pc stepDown stepUp
+unfolding unitCheck amountChecks
+unit-sound class n0 pc stepDown stepUp e =
+    let a = passes (isFlag class) F.Class _ e in
+    let b = passes (inRange n0) F.N _ (a .1) in
+    let c = passes (inRange pc) F.Pc _ (b .1) in
+    let d = passes (inRange stepDown) F.StepDown _ (c .1) in
+    let f = passes (inRange stepUp) F.StepUp _ (d .1) in
+    record {
+      known = leb-true class 1 (a .0);
+      n0-small = range-small n0 (b .0);
+      pc-small = range-small pc (c .0);
+      down-small = range-small stepDown (d .0);
+      up-small = range-small stepUp (f .0);
+      ordered = passes (leZ stepDown stepUp) F.Crossed Fine (f .1) .0;
+    }
+
+-- a group that is not refused
+pub record Accepted (g : Group) : Type 0 where
+  pub few : units g ≤ 64
+  pub level : Level g
+  pub sound : (i : ℕ) → Sound (getD (g .class) i 0) (at (g .n0) i) (at (g .pc) i) (at (g .stepDown) i) (at (g .stepUp) i)
+
+-- the eight lengths
+record Even (g : Group) (first second third : List ℤ) : Type 0 where
+  pub level : Level g
+  pub firsts : length first ≡ units g
+  pub seconds : length second ≡ units g
+  pub thirds : length third ≡ units g
+
+even : (g : Group) (first second third : List ℤ) → oneLength g first second third ≡ true → Even g first second third
+unfolding lengths
+even g first second third e =
+    let p = and-both (eqb (length (g .pc)) (units g)) _ e in
+    let d = and-both (eqb (length (g .stepDown)) (units g)) _ (p .1) in
+    let u = and-both (eqb (length (g .stepUp)) (units g)) _ (d .1) in
+    let c = and-both (eqb (length (g .class)) (units g)) _ (u .1) in
+    let x = and-both (eqb (length first) (units g)) _ (c .1) in
+    let y = and-both (eqb (length second) (units g)) (eqb (length third) (units g)) (x .1) in
+    record {
+      level =
+          record {
+            positions = eqb-true _ _ (p .0);
+            downs = eqb-true _ _ (d .0);
+            ups = eqb-true _ _ (u .0);
+            classes = eqb-true _ _ (c .0);
+          };
+      firsts = eqb-true _ _ (x .0);
+      seconds = eqb-true _ _ (y .0);
+      thirds = eqb-true _ _ (y .1);
+    }
+
+pub level-of : (g : Group) (first second third : List ℤ) → oneLength g first second third ≡ true → Level g
+level-of g first second third e = even g first second third e .level
+
+-- past the end there is nothing to refuse
+nothing-sound : Sound 0 (pos 0) (pos 0) (pos 0) (pos 0)
+nothing-sound = omega zarith
+
+module _ (g : Group) (first second third : List ℤ) {n : ℕ} (lengths-one : oneLength g first second third ≡ true)
+    (permitted : countPermitted (units g) ≡ true) (fine : unitsFrom (unitChecks g) 0 (units g) ≡ is n) where
+  accepted-by : Accepted g
+  unfolding unitChecks
+  accepted-by = record { few = leb-true (units g) 64 (and-both (leb 1 (units g)) (leb (units g) 64) permitted .1); level = v; sound = λ i. go i (decLt i (units g)) }
+    where
+      v : Level g
+      v = even g first second third lengths-one .level
+
+      go : (i : ℕ) → Dec (i < units g) → Sound (getD (g .class) i 0) (at (g .n0) i) (at (g .pc) i) (at (g .stepDown) i) (at (g .stepUp) i)
+      go i (yes l) =
+          unit-sound (getD (g .class) i 0) (at (g .n0) i) (at (g .pc) i) (at (g .stepDown) i) (at (g .stepUp) i)
+          (all-fine (unitChecks g) 0 (units g) fine i (omega arith) (omega arith))
+      go i (no l) =
+          rw (
+            List·getD-eq-default (g .class) 0 {n = i} (omega (arith, v .classes)),
+            List·getD-eq-default (g .n0) (pos 0) {n = i} (omega arith),
+            List·getD-eq-default (g .pc) (pos 0) {n = i} (omega (arith, v .positions)),
+            List·getD-eq-default (g .stepDown) (pos 0) {n = i} (omega (arith, v .downs)),
+            List·getD-eq-default (g .stepUp) (pos 0) {n = i} (omega (arith, v .ups)),
+          )
+          nothing-sound
+
+  pub judged-of : Judged g first second third
+  judged-of =
+      let a = accepted-by in
+      let v = even g first second third lengths-one in
+      record {
+        few = a .few;
+        level = a .level;
+        known = λ i. a .sound i .known;
+        firsts = v .firsts;
+        seconds = v .seconds;
+        thirds = v .thirds;
+        n0-small = λ i. a .sound i .n0-small;
+        pc-small = λ i. a .sound i .pc-small;
+        down-small = λ i. a .sound i .down-small;
+        up-small = λ i. a .sound i .up-small;
+      }
+
+pub accepted : (g : Group) (first second third : List ℤ) {sums : Sums} → judgeOf g first second third ≡ is sums → Accepted g
+unfolding judgeOf
+accepted g first second third e =
+    let a = need-is (oneLength g first second third) 15 0 _ e in
+    let b = need-is (countPermitted (units g)) 5 0 _ (a .1) in
+    let c = next-is (unitsFrom (unitChecks g) 0 (units g)) (λ _. is (sumsOf g)) (b .1) in
+    accepted-by g first second third (a .0) (b .0) (c .1 .0)
+
+-- n1 of such a group is a column that can be cut
+pub classed-by : (g : Group) → units g ≤ 64 → length (g .class) ≡ units g → ((i : ℕ) → getD (g .class) i 0 ≤ 1)
+    → AllWithin 1000000 (g .n0) → AllWithin 1000000 (g .stepDown) → AllWithin 1000000 (g .stepUp) → Classed (n1 g) (g .class)
+classed-by g few classes known n0-small down-small up-small =
+    let m = step1-length (g .n0) (g .stepDown) (g .stepUp) in
+    record {
+      few = omega arith;
+      small = step1-small (g .n0) (g .stepDown) (g .stepUp) n0-small down-small up-small;
+      classes = omega arith;
+      known = known;
+    }
+
+pub classed : (g : Group) → Accepted g → Classed (n1 g) (g .class)
+classed g a =
+    classed-by g (a .few) (a .level .classes) (λ i. a .sound i .known)
+    (λ i. a .sound i .n0-small) (λ i. a .sound i .down-small) (λ i. a .sound i .up-small)

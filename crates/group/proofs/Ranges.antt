@@ -1,0 +1,86 @@
+-- The steps keep the length of their column and stay within a quantity's range: each entry is one of the entries it came from, or nearer to zero.
+-- one of three, by two tests
+use Prim.Native.Nat.{ℕ, _≤_}
+use mathlib.Core.Path.{_≡_}
+use mathlib.Core.Bool.{Bool, true, false, _&&_}
+use mathlib.Core.List.{List}
+use native.Mathlib.Omega.{arith}
+use native.Mathlib.Nat.{le-trans}
+use lib.IntN.{ℤ, pos}
+use lib.ListN.{length, getD}
+use lib.Signed.{ltZ}
+use Rattle.numbers.specs.Range.{Within}
+use Rattle.numbers.specs.Choice.{pick}
+use Rattle.numbers.specs.Column.{at, AllWithin}
+use Rattle.numbers.specs.Sum.{sum}
+use Rattle.numbers.proofs.Integers.{zarith, minus}
+use Rattle.numbers.proofs.Columns.{column-length, column-within}
+use Rattle.terms.specs.declared.quantity.Standing.{Standing}
+use Rattle.terms.specs.declared.quantity.Direction.{Direction}
+use Rattle.quota.specs.Quota.{cutsOf, Sized}
+use Rattle.quota.proofs.Fairness.{cuts-within}
+use Rattle.group.specs.Steps.{bandOf, excessOf, directionOf, nearerBy, step1Of, step3Of}
+use Rattle.group.specs.Group.{sizesOf, taken, step1All, step2All, step3All}
+use Rattle.group.specs.Asked.{Classed}
+use Rattle.group.proofs.Bands.{low-within, high-within}
+use Rattle.group.proofs.Sides.{sizes-length, size-le, size-at, size-abs}
+use Rattle.group.proofs.Bearing.{Bears, excess-ind}
+use Rattle.group.proofs.Cuts.{nearer, lossAt, loss-within}
+
+one-of : {b : ℕ} (s t : Bool) {x y z : ℤ} → Within b x → Within b y → Within b z → Within b (pick s x (pick t y z))
+one-of true t p q r = p
+one-of false true p q r = q
+one-of false false p q r = r
+
+module _ (n stepDown stepUp : List ℤ) where
+  pub step1-length : length (step1All n stepDown stepUp) ≡ length n
+  unfolding step1All
+  step1-length = column-length (λ i. step1Of (at n i) (at stepDown i) (at stepUp i)) (length n)
+
+  pub step3-length : length (step3All n stepDown stepUp) ≡ length n
+  unfolding step3All
+  step3-length = column-length (λ i. step3Of (at n i) (at stepDown i) (at stepUp i)) (length n)
+
+  module _ (small : AllWithin 1000000 n) (down-small : AllWithin 1000000 stepDown) (up-small : AllWithin 1000000 stepUp) where
+    pub step1-small : AllWithin 1000000 (step1All n stepDown stepUp)
+    unfolding step1All
+    step1-small =
+        column-within 1000000 (λ i. step1Of (at n i) (at stepDown i) (at stepUp i)) (length n)
+        (λ i. one-of (ltZ (pos 0) (at n i) && ltZ (at stepUp i) (at n i)) (ltZ (at n i) (pos 0) && ltZ (at n i) (at stepDown i)) (up-small i) (down-small i) (small i))
+
+    pub step3-small : AllWithin 1000000 (step3All n stepDown stepUp)
+    unfolding step3All
+    step3-small =
+        column-within 1000000 (λ i. step3Of (at n i) (at stepDown i) (at stepUp i)) (length n)
+        (λ i. one-of (ltZ (pos 0) (at n i) && ltZ (at n i) (at stepDown i)) (ltZ (at n i) (pos 0) && ltZ (at stepUp i) (at n i)) (down-small i) (up-small i) (small i))
+
+pub excess-within : (p s : ℤ) → Within 64000000 p → Within 64000000 s → Within 128000000 (excessOf (bandOf p) s)
+excess-within p s hp hs =
+    let low : Within 64000000 (bandOf p .low) = low-within p 64000000 hp in
+    let high : Within 64000000 (bandOf p .high) = high-within p 64000000 hp in
+    excess-ind (bandOf p) s (Within 128000000)
+    (λ a. omega (zarith, minus s (bandOf p .high)))
+    (λ a b. omega (zarith, minus s (bandOf p .low)))
+    (λ a b. omega zarith)
+
+module _ {n1 : List ℤ} {class : List ℕ} (h : Classed n1 class) where
+  pub sizes-sized : (d : Direction) (k : Standing) → Sized (sizesOf d k n1 class)
+  sizes-sized d k =
+      record {
+        few = omega (arith, sizes-length d k n1 class, h .few);
+        small = λ i. omega (zarith, size-at d k n1 class i, size-le d k (getD class i 0) (at n1 i), size-abs d (at n1 i), h .small i);
+      }
+
+  pub cuts-small : (d : Direction) (k : Standing) (c : ℕ) → c ≤ sum (sizesOf d k n1 class) → (i : ℕ) → getD (cutsOf (sizesOf d k n1 class) c) i 0 ≤ 1000000
+  cuts-small d k c le i = le-trans (cuts-within (sizesOf d k n1 class) c le i) (sizes-sized d k .small i)
+
+module _ (e : ℤ) (n1 : List ℤ) (class : List ℕ) where
+  pub step2-length : length (step2All e n1 class) ≡ length n1
+  unfolding step2All taken
+  step2-length = column-length (λ i. nearerBy (directionOf e) (at n1 i) (lossAt e n1 class i)) (length n1)
+
+  pub step2-small : Classed n1 class → Bears e n1 class → AllWithin 1000000 (step2All e n1 class)
+  unfolding step2All taken
+  step2-small h bears =
+      column-within 1000000 (λ i. nearerBy (directionOf e) (at n1 i) (lossAt e n1 class i)) (length n1)
+      (λ i. omega (zarith, nearer (directionOf e) (at n1 i) (lossAt e n1 class i) (loss-within e n1 class bears h i), h .small i))

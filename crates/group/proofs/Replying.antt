@@ -1,0 +1,43 @@
+-- What the columns call owes at each of its answers: a refusal leaves the three columns, an acceptance writes them.
+use Prim.Native.Nat.{ℕ}
+use mathlib.Core.Path.{_≡_, sym, ap, _∙_}
+use mathlib.Core.Bool.{true, false}
+use mathlib.Core.List.{List}
+use lib.IntN.{ℤ}
+use Rattle.terms.specs.Reply.{Reply, is, refused, need, next}
+use Rattle.terms.specs.Refusals.{unitsFrom}
+use Rattle.group.specs.Group.{Group, units}
+use Rattle.group.specs.Columns.{unitChecks, oneLength, countPermitted, sumsOf, judgeOf, after, Columns}
+use Rattle.group.specs.Asked.{Written}
+use Rattle.group.specs.declared.judge.Sums.{Sums}
+
+module _ (g : Group) (first second third : List ℤ) where
+  kept : {r : Reply Sums} {number place : ℕ} → judgeOf g first second third ≡ refused number place → r ≡ refused number place → Columns g first second third r first second third
+  unfolding after
+  kept e f = record { replied = f ∙ sym e; clamped = rw e; cut = rw e; stretched = rw e }
+
+  pub unequal : {r : Reply Sums} → oneLength g first second third ≡ false → r ≡ refused 15 0 → Columns g first second third r first second third
+  unfolding judgeOf need
+  unequal e f = kept (rw e) f
+
+  module _ (one : oneLength g first second third ≡ true) where
+    pub uncounted : {r : Reply Sums} → countPermitted (units g) ≡ false → r ≡ refused 5 0 → Columns g first second third r first second third
+    unfolding judgeOf need
+    uncounted e f = kept (rw (one, e)) f
+
+    module _ (permitted : countPermitted (units g) ≡ true) where
+      pub faulty : {r : Reply Sums} {number place : ℕ} → unitsFrom (unitChecks g) 0 (units g) ≡ refused number place → r ≡ refused number place
+          → Columns g first second third r first second third
+      unfolding judgeOf need next
+      faulty e f = kept (rw (one, permitted, e)) f
+
+      judged : {n : ℕ} → unitsFrom (unitChecks g) 0 (units g) ≡ is n → judgeOf g first second third ≡ is (sumsOf g)
+      unfolding judgeOf need next
+      judged e = rw (one, permitted, e)
+
+      pub written : {n : ℕ} {sums : Sums} {x1 x2 x3 : List ℤ} → unitsFrom (unitChecks g) 0 (units g) ≡ is n → Written g sums x1 x2 x3
+          → Columns g first second third (is sums) x1 x2 x3
+      unfolding after
+      written {n} {sums} e w =
+          let j : judgeOf g first second third ≡ is (sumsOf g) = judged e in
+          record { replied = ap is (w .replied) ∙ sym j; clamped = rw j (w .clamped); cut = rw j (w .cut); stretched = rw j (w .stretched) }

@@ -1,0 +1,29 @@
+-- `size_of` meets its contract, by the unit's standing.
+use mathlib.Core.Path.{sym, _∙_}
+use borrow.Author.Needs.{needs}
+use mir.Facts.{toZ-ofZ}
+use Rattle.group.specs.Group.{sizeOf}
+use Rattle.group.proofs.cut.size_of.Tie as tie
+use Rattle.group.proofs.cut.size_of.Statement.{statement}
+
+holds-requires : tie.Need-holds-requires
+holds-requires c κs = search needs
+
+size-requires : tie.Need-size-requires
+size-requires c κs = search needs
+
+returns : tie.Need-returns
+unfolding sizeOf
+returns c =
+    let s = c .before .before .before in
+    let t = sym (c .before .before .holds .ensures) ∙ c .before .if1 .taken in
+    simp t (simp (toZ-ofZ (s .fits .n1)) at (c .size .ensures))
+
+returns-2 : tie.Need-returns-2
+unfolding sizeOf
+returns-2 c =
+    let t = sym (c .before .holds .ensures) ∙ c .if1 .left in
+    simp t
+
+pub size-of-spec : {M : Type 1} → statement M
+size-of-spec = tie.close (tie.spec holds-requires size-requires returns returns-2)

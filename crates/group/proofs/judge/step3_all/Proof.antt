@@ -1,0 +1,109 @@
+-- `step3_all` meets its contract: after i turns the first i places are those of step 3.
+use Prim.Native.Nat.{_-_, _≤_}
+use mathlib.Core.Path.{_≡_, refl, _∙_}
+use mathlib.Core.List.{_++_}
+use native.Mathlib.Omega.{arith}
+use borrow.Author.Needs.{needs}
+use denote.Ref.{now}
+use lib.IntN.{pos}
+use lib.ListN.{length, drop, length-set}
+use mir.Syntax.{w32}
+use mir.Val.{SFits, toZ, ofZ}
+use mir.Facts.{toZ-ofZ}
+use Rattle.numbers.specs.Column.{column, at}
+use Rattle.numbers.proofs.Columns.{column-none, column-more, column-all}
+use Rattle.group.specs.Steps.{step3Of}
+use Rattle.group.specs.Group.{step3All}
+use Rattle.group.proofs.judge.step3_all.Tie as tie
+use Rattle.group.proofs.judge.step3_all.Statement.{statement}
+
+abbrev Inv-loop : tie.InvT-loop
+Inv-loop n2 step-down step-up n3₀ i₀ n3 i =
+    (i ≤ length n2)
+    × ((length n3 ≡ length n3₀) × (n3 ≡ column i (λ k. step3Of (at n2 k) (at step-down k) (at step-up k)) ++ drop i n3₀))
+
+abbrev μ-loop : tie.MeasureT-loop
+μ-loop n2 step-down step-up n3₀ i₀ n3 i = length n2 - i
+
+loop-holds : tie.Need-loop-holds Inv-loop μ-loop
+loop-holds c = (omega arith, (refl, column-none _ (now (c .args .n3))))
+
+mul-step3 : tie.Need-mul-step3 Inv-loop μ-loop
+mul-step3 c = omega arith
+
+shared-slice-copy-out-step3 : tie.Need-shared-slice-copy-out-step3 Inv-loop μ-loop
+shared-slice-copy-out-step3 c = omega arith
+
+mul-step3-2 : tie.Need-mul-step3-2 Inv-loop μ-loop
+mul-step3-2 c = omega arith
+
+shared-slice-copy-out-step3-2 : tie.Need-shared-slice-copy-out-step3-2 Inv-loop μ-loop
+shared-slice-copy-out-step3-2 c = omega arith
+
+mul-step3-3 : tie.Need-mul-step3-3 Inv-loop μ-loop
+mul-step3-3 c = omega arith
+
+shared-slice-copy-out-step3-3 : tie.Need-shared-slice-copy-out-step3-3 Inv-loop μ-loop
+shared-slice-copy-out-step3-3 c = omega arith
+
+step3-requires : tie.Need-step3-requires Inv-loop μ-loop
+step3-requires c κs = search needs
+
+mul-t17 : tie.Need-mul-t17 Inv-loop μ-loop
+mul-t17 c = omega arith
+
+slice-set-from-n3 : tie.Need-slice-set-from-n3 Inv-loop μ-loop
+slice-set-from-n3 c = omega arith
+
+add-i : tie.Need-add-i Inv-loop μ-loop
+add-i c = omega arith
+
+loop-less : tie.Need-loop-less Inv-loop μ-loop
+loop-less c = omega arith
+
+loop-again : tie.Need-loop-again Inv-loop μ-loop
+loop-again c =
+    let b = c .before in
+    let l = b .before .before .before .before .loop in
+    let a = b .before .before .before .before .before .args in
+    let f : SFits w32 (at (now (a .n2)) (l .i)) = record { sfits = b .before .before .step3-arg .given } in
+    let g : SFits w32 (at (now (a .step-down)) (l .i)) = record { sfits = b .before .step3-arg2 .given } in
+    let h : SFits w32 (at (now (a .step-up)) (l .i)) = record { sfits = b .step3-arg3 .given } in
+    let r : SFits w32 (c .step3 .result) = record { sfits = c .step3 .ok } in
+    let v : toZ w32 (ofZ w32 (c .step3 .result)) ≡ step3Of (at (now (a .n2)) (l .i)) (at (now (a .step-down)) (l .i)) (at (now (a .step-up)) (l .i)) =
+    simp toZ-ofZ (simp toZ-ofZ at (c .step3 .ensures))
+    in
+    (omega arith, (simp length-set (l .inv .1 .0), rw (v, l .inv .1 .1) (column-more _ (l .i) (now (a .n3)) (pos 0) (omega arith))))
+
+same-length : tie.Need-same-length Inv-loop μ-loop
+same-length c = omega arith
+
+returns : tie.Need-returns Inv-loop μ-loop
+unfolding step3All
+returns c =
+    let l = c .before .loop in
+    let a = c .before .before .args in
+    let e : l .i ≡ length (now (a .n2)) = omega arith in
+    l .inv .1 .1 ∙ rw e (column-all _ (now (a .n3)) (length (now (a .n2))) (omega arith))
+
+pub step3-all-spec : {M : Type 1} → statement M
+step3-all-spec =
+    tie.close
+    (tie.spec
+    Inv-loop
+    μ-loop
+    loop-holds
+    mul-step3
+    shared-slice-copy-out-step3
+    mul-step3-2
+    shared-slice-copy-out-step3-2
+    mul-step3-3
+    shared-slice-copy-out-step3-3
+    step3-requires
+    mul-t17
+    slice-set-from-n3
+    add-i
+    loop-less
+    loop-again
+    same-length
+    returns)

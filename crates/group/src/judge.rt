@@ -1,0 +1,192 @@
+// A group given as columns is judged: refused, or its three steps, sums, verdict and balance.
+ghost use mathlib.Core.Path.{_≡_};
+ghost use Rattle.group.specs.Group.{step1All, step3All};
+ghost use Rattle.numbers.specs.Range.{Within};
+ghost use Rattle.group.specs.Columns.{columns, judgement, sumsBy, lengths, Columns};
+ghost use Rattle.group.specs.Asked.{Aligned, Banded, Cut, Judged, Written};
+use crate::band::Band;
+use crate::band::balance;
+use crate::band::verdict;
+use crate::check::count_permitted;
+use crate::check::units;
+use crate::cut::step2_all;
+use crate::unit::step1;
+use crate::unit::step3;
+use numbers::signed::sum;
+use terms::quantity::Nomination;
+use terms::quantity::Position;
+use terms::refusal::Answer;
+use terms::refusal::Refusal;
+use terms::refusal::Why;
+
+// What comes back of an accepted group.
+pub struct Sums {
+    pub verdict: u8,
+    pub p: Position,
+    pub s1: Nomination,
+    pub s2: Nomination,
+    pub s3: Nomination,
+    pub balance: Nomination,
+}
+
+pub enum Judgement {
+    Accepted(Sums),
+    Refused(Refusal),
+}
+
+// Step 1 of every unit.
+fn step1_all(n0: &[i32], step_down: &[i32], step_up: &[i32], n1: &mut [i32])
+    requires { ⌜ Aligned (now n0) (now «step_down») (now «step_up») (now n1) ⌝ }
+    ensures { λ _. ⌜ now (n1 .exit) ≡ step1All (now (n0 .entry)) (now («step_down» .entry)) (now («step_up» .entry)) ⌝ }
+{
+    let mut i = 0;
+    while i < n0.len() {
+        n1[i] = step1(n0[i], step_down[i], step_up[i]);
+        i += 1;
+    }
+}
+
+// Step 3 of every unit.
+fn step3_all(n2: &[i32], step_down: &[i32], step_up: &[i32], n3: &mut [i32])
+    requires { ⌜ Aligned (now n2) (now «step_down») (now «step_up») (now n3) ⌝ }
+    ensures { λ _. ⌜ now (n3 .exit) ≡ step3All (now (n2 .entry)) (now («step_down» .entry)) (now («step_up» .entry)) ⌝ }
+{
+    let mut i = 0;
+    while i < n2.len() {
+        n3[i] = step3(n2[i], step_down[i], step_up[i]);
+        i += 1;
+    }
+}
+
+// The sums on both sides of step 2, and the excess that it cuts.
+struct Balanced {
+    s1: i32,
+    e: i32,
+    s2: i32,
+}
+
+// Step 2 of a group with position p and its band.
+fn step2_sums(p: Position, b: Band, n1: &[i32], class: &[u8], n2: &mut [i32]) -> Balanced
+    requires { ⌜ Banded (p .0) b (now n1) (now class) (now n2) ⌝ }
+    ensures { λ r. ⌜ Cut (now (n1 .entry)) (now (class .entry)) b (r .s1) (r .e) (r .s2) (now (n2 .exit)) ⌝ }
+{
+    let s1 = sum(n1);
+    let e = b.excess(s1);
+    step2_all(e, n1, class, n2);
+    let s2 = sum(n2);
+    Balanced { s1, e, s2 }
+}
+
+// Verdict and balance, beside the sums.
+fn summed(p: Position, b: Band, s1: i32, e: i32, s2: i32, s3: i32) -> Sums
+    requires { ⌜ Within 64000000 (p .0) × Within 64000000 s3 ⌝ }
+    ensures { λ r. ⌜ r ≡ sumsBy (p .0) b s1 e s2 s3 ⌝ }
+{
+    Sums {
+        verdict: verdict(b, e, s3),
+        p,
+        s1: Nomination(s1),
+        s2: Nomination(s2),
+        s3: Nomination(s3),
+        balance: balance(p, Nomination(s3)),
+    }
+}
+
+// The three steps of a group that is not refused.
+fn judged(
+    n0: &[i32],
+    pc: &[i32],
+    step_down: &[i32],
+    step_up: &[i32],
+    class: &[u8],
+    n1: &mut [i32],
+    n2: &mut [i32],
+    n3: &mut [i32],
+) -> Sums
+    requires { ⌜ Judged (columns (now n0) (now pc) (now «step_down») (now «step_up») (now class)) (now n1) (now n2) (now n3) ⌝ }
+    ensures { λ r. ⌜ Written (columns (now (n0 .entry)) (now (pc .entry)) (now («step_down» .entry)) (now («step_up» .entry)) (now (class .entry))) r (now (n1 .exit)) (now (n2 .exit)) (now (n3 .exit)) ⌝ }
+{
+    let p = Position(sum(pc));
+    let b = Band::of(p);
+    step1_all(n0, step_down, step_up, n1);
+    let cut = step2_sums(p, b, n1, class, n2);
+    step3_all(n2, step_down, step_up, n3);
+    let s3 = sum(n3);
+    summed(p, b, cut.s1, cut.e, cut.s2, s3)
+}
+
+// Whether eight lengths are one.
+fn one_length(
+    n: usize,
+    b: usize,
+    c: usize,
+    d: usize,
+    e: usize,
+    f: usize,
+    g: usize,
+    h: usize,
+) -> bool
+    ensures { λ r. ⌜ r ≡ lengths n b c d e f g h ⌝ }
+{
+    if b != n {
+        return false;
+    }
+    if c != n {
+        return false;
+    }
+    if d != n {
+        return false;
+    }
+    if e != n {
+        return false;
+    }
+    if f != n {
+        return false;
+    }
+    if g != n {
+        return false;
+    }
+    h == n
+}
+
+// The group as columns is judged; n1, n2 and n3 are written where it is accepted.
+pub fn judge(
+    n0: &[i32],
+    pc: &[i32],
+    step_down: &[i32],
+    step_up: &[i32],
+    class: &[u8],
+    n1: &mut [i32],
+    n2: &mut [i32],
+    n3: &mut [i32],
+) -> Judgement
+    ensures { λ r. ⌜ Columns (columns (now (n0 .entry)) (now (pc .entry)) (now («step_down» .entry)) (now («step_up» .entry)) (now (class .entry))) (now (n1 .entry)) (now (n2 .entry)) (now (n3 .entry)) (judgement r) (now (n1 .exit)) (now (n2 .exit)) (now (n3 .exit)) ⌝ }
+{
+    let n = n0.len();
+    if !one_length(
+        n,
+        pc.len(),
+        step_down.len(),
+        step_up.len(),
+        class.len(),
+        n1.len(),
+        n2.len(),
+        n3.len(),
+    ) {
+        return Judgement::Refused(Refusal {
+            why: Why::Columns,
+            place: 0,
+        });
+    }
+    if !count_permitted(n) {
+        return Judgement::Refused(Refusal {
+            why: Why::UnitCount,
+            place: 0,
+        });
+    }
+    let checked = units(n0, pc, step_down, step_up, class);
+    let Answer::Is(_) = checked else {
+        return Judgement::Refused(checked.refusal());
+    };
+    Judgement::Accepted(judged(n0, pc, step_down, step_up, class, n1, n2, n3))
+}

@@ -1,0 +1,2 @@
+-- The pro-quota cut.
+pub mod Quota
