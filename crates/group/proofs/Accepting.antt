@@ -1,5 +1,4 @@
 -- What an accepted group has passed, read back from the reply test by test.
--- the fields of a unit that passes its checks
 use Prim.Native.Nat.{ℕ, _≤_, _<_}
 use mathlib.Core.Path.{_≡_}
 use mathlib.Core.Bool.{true}
@@ -29,6 +28,7 @@ use Rattle.group.specs.Asked.{Level, Judged, Classed}
 use Rattle.group.specs.declared.judge.Sums.{Sums}
 use Rattle.group.proofs.Ranges.{step1-length, step1-small}
 
+-- the fields of a unit that passes its checks
 pub record Sound (class : ℕ) (n0 pc stepDown stepUp : ℤ) : Type 0 where
   pub known : class ≤ 1
   pub n0-small : Within 1000000 n0

@@ -1,5 +1,4 @@
 -- The band's ends, by cases on the sign of P: 0 lies in the band, and the ends are no larger than P.
--- -P is the low end where it is not above 0
 use Prim.Native.Nat.{ℕ}
 use mathlib.Core.Path.{_≡_, refl}
 use mathlib.Core.Bool.{true, false}
@@ -11,6 +10,7 @@ use Rattle.numbers.proofs.Integers.{zarith, neg, one-side}
 use Rattle.numbers.proofs.Choices.{pick-ind}
 use Rattle.group.specs.Steps.{bandOf}
 
+-- -P is the low end where it is not above 0
 pub low-end : (p : ℤ) → ltZ (pos 0) (negℤ p) ≡ false → negℤ p ≡ pick (ltZ (pos 0) p) (negℤ p) (pos 0)
 low-end p h = pick-ind (ltZ (pos 0) p) (negℤ p) (pos 0) (λ z. negℤ p ≡ z) (λ e. refl) (λ e. omega (zarith, neg p, one-side p))
 

@@ -1,5 +1,4 @@
 -- The excess over a band that holds 0 can be borne by the units of its direction: it is no further from zero than the sum, whose size the units' sizes there reach.
--- the excess by its three cases
 use Prim.Native.Nat.{_+_, _≤_, ℕ}
 use mathlib.Core.Path.{_≡_}
 use mathlib.Core.Bool.{true, false}
@@ -22,6 +21,7 @@ use Rattle.group.specs.declared.band.Band.{Band}
 use Rattle.group.proofs.Bands.{low-zero, high-zero}
 use Rattle.group.proofs.Sides.{size-in, both-totals, sum-size}
 
+-- the excess by its three cases
 pub excess-ind : (b : Band) (s : ℤ) (P : ℤ → Type 0)
     → (ltZ (b .high) s ≡ true → P (s -ℤ b .high))
     → (ltZ (b .high) s ≡ false → ltZ s (b .low) ≡ true → P (s -ℤ b .low))

@@ -1,5 +1,4 @@
 -- What step 2 takes of each unit: no more than its size in the direction cut, by the laws of `quota` for each standing, and so much nearer to zero it comes.
--- m is n, nearer to zero by c in a direction
 use Prim.Native.Nat.{ℕ, _+_, _-_, _*_, _≤_, _<_, min}
 use mathlib.Core.Path.{_≡_, refl, sym, _∙_, ap, ap₂}
 use mathlib.Core.Bool.{true, false}
@@ -28,6 +27,7 @@ use Rattle.group.specs.Asked.{Classed}
 use Rattle.group.proofs.Sides.{size-in, no-size, sizes-length, size-at, size-of, size-not, both-standings}
 use Rattle.group.proofs.Bearing.{Toward, Bears}
 
+-- m is n, nearer to zero by c in a direction
 pub record Nearer (d : Direction) (n : ℤ) (c : ℕ) (m : ℤ) : Type 0 where
   pub lost : natAbs (n -ℤ m) ≡ c
   pub left : sizeIn d m + c ≡ sizeIn d n

@@ -1,5 +1,4 @@
 -- Demand 3, sentence by sentence, over n1, n2 and n3 of every group that is not refused (`Accepting.accepted`): the laws of `Cuts`, `Landing` and `Margins` read off there.
--- the direction cut
 use Prim.Native.Nat.{ℕ, _+_, _*_, _≤_, _<_}
 use mathlib.Core.Path.{_≡_, sym, _∙_, ap}
 use mathlib.Core.Bool.{true, false}
@@ -31,6 +30,7 @@ use Rattle.group.proofs.Margins.{all-inside}
 use Rattle.group.proofs.Accepting.{Accepted, classed}
 use Rattle.group.proofs.Cuts as law
 
+-- the direction cut
 abbrev pub direction : Group → Direction
 direction g = directionOf (excess g)
 

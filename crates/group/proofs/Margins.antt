@@ -1,5 +1,4 @@
 -- At the end every unit is at zero or within its margins: step 1 leaves none beyond the far margin, step 2 only comes nearer to zero, and step 3 stretches to the near one.
--- one of three, by a test on each side of zero: step 1 and step 3 are of this form
 use Prim.Native.Nat.{ℕ, _≤_, _<_}
 use mathlib.Core.Path.{_≡_}
 use mathlib.Core.Bool.{Bool, true, false, _&&_}
@@ -18,6 +17,7 @@ use Rattle.group.specs.Steps.{step1Of, step3Of}
 use Rattle.group.specs.Group.{step1All, step3All}
 use Rattle.group.proofs.Bearing.{Toward}
 
+-- one of three, by a test on each side of zero: step 1 and step 3 are of this form
 clamp-ind : (P : ℤ → Type 0) (n x y : ℤ) (s t : Bool)
     → (ltZ (pos 0) n ≡ true → s ≡ true → P x) → (ltZ (pos 0) n ≡ true → s ≡ false → P n)
     → (ltZ n (pos 0) ≡ true → t ≡ true → P y) → (ltZ n (pos 0) ≡ true → t ≡ false → P n)

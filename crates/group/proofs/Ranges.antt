@@ -1,5 +1,4 @@
 -- The steps keep the length of their column and stay within a quantity's range: each entry is one of the entries it came from, or nearer to zero.
--- one of three, by two tests
 use Prim.Native.Nat.{ℕ, _≤_}
 use mathlib.Core.Path.{_≡_}
 use mathlib.Core.Bool.{Bool, true, false, _&&_}
@@ -27,6 +26,7 @@ use Rattle.group.proofs.Sides.{sizes-length, size-le, size-at, size-abs
 use Rattle.group.proofs.Bearing.{Bears, excess-ind}
 use Rattle.group.proofs.Cuts.{nearer, lossAt, loss-within}
 
+-- one of three, by two tests
 one-of : {b : ℕ} (s t : Bool) {x y z : ℤ} → Within b x → Within b y → Within b z → Within b (pick s x (pick t y z))
 one-of true t p q r = p
 one-of false true p q r = q

@@ -72,9 +72,12 @@ pub column-ext : {X : Type 0} (f g : ℕ → X) (n : ℕ) → ((k : ℕ) → k <
 column-ext f g n h = is-column g (f 0) n (column n f) (column-length f n) (λ k l. column-at f n k (f 0) l ∙ h k l)
 
 -- a column whose entries lie from -b to b
-pub column-within : (b : ℕ) (f : ℕ → ℤ) (n : ℕ) → ((k : ℕ) → Within b (f k)) → AllWithin b (column n f)
-column-within b f n h k = go (decLt k n)
+pub column-within-below : (b : ℕ) (f : ℕ → ℤ) (n : ℕ) → ((k : ℕ) → k < n → Within b (f k)) → AllWithin b (column n f)
+column-within-below b f n h k = go (decLt k n)
   where
     go : Dec (k < n) → Within b (at (column n f) k)
-    go (yes l) = subst (Within b) (sym (column-at f n k (pos 0) l)) (h k)
+    go (yes l) = subst (Within b) (sym (column-at f n k (pos 0) l)) (h k l)
     go (no l) = subst (Within b) (sym (column-past f n k (pos 0) (omega arith))) (omega zarith)
+
+pub column-within : (b : ℕ) (f : ℕ → ℤ) (n : ℕ) → ((k : ℕ) → Within b (f k)) → AllWithin b (column n f)
+column-within b f n h = column-within-below b f n (λ k l. h k)

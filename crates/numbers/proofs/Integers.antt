@@ -1,6 +1,5 @@
 -- Signed linear arithmetic by omega: every ℤ is `pp z - nn z`, two naturals of which one is 0, and each statement about ℤ is one about those.
 -- Tests, equations and ranges go by rules (the set `zarith`); a sum, a difference or a negation by a fact that the call lists (`plus a b`, `minus a b`, `neg a`).
--- the part above zero, and the part below
 use Prim.Native.Nat.{ℕ, zero, suc, _+_, _-_, _^_, _≤_, _<_, max}
 use mathlib.Core.Path.{_≡_, refl, sym, ap, _∙_, subst}
 use mathlib.Core.Bool.{Bool, true, false, cond, _&&_}
@@ -16,6 +15,7 @@ use mir.Facts.{sfits-lit}
 use Rattle.numbers.specs.Range.{Within}
 use Rattle.numbers.specs.Choice.{eqZ}
 
+-- the part above zero, and the part below
 abbrev pub pp : ℤ → ℕ
 pp (pos n) = n
 pp (negsuc n) = 0

@@ -1,15 +1,17 @@
--- Two refusals with one number and one place are one refusal: the number leads back to its reason.
--- the reasons by their numbers; there is no number 0
+-- Two refusals with one number and one place are one refusal: the number leads back to its reason. So two answers with one reply are one answer.
 use Prim.Native.Nat.{ℕ}
 use mathlib.Core.Path.{_≡_, refl, sym, ap, _∙_}
 use mathlib.Core.List.{List, [], _∷_}
 use lib.ListN.{getD}
-use Rattle.terms.specs.Reply.{Reply}
-use Rattle.terms.specs.Refusals.{numberOf, refusal}
+use Rattle.terms.specs.Reply.{Reply, refused}
+use Rattle.terms.specs.Refusals.{numberOf, refusal, answer}
 use Rattle.terms.specs.declared.refusal.Why.{Why}
-use Rattle.terms.specs.declared.refusal.Refusal.{Refusal}
 use Rattle.terms.specs.declared.refusal.Why.the-variants as W
+use Rattle.terms.specs.declared.refusal.Refusal.{Refusal}
+use Rattle.terms.specs.declared.refusal.Answer.{Answer}
+use Rattle.terms.specs.declared.refusal.Answer.the-variants as A
 
+-- the reasons by their numbers; there is no number 0
 reasons : List Why
 reasons =
     W.CutShort
@@ -60,3 +62,9 @@ same-refusal r q e =
     let p : r .place ≡ q .place = cc in
     let w : r .why ≡ q .why = same-why (r .why) (q .why) n in
     ap {B = Refusal} (λ (v : Why). record { why = v; place = r .place }) w ∙ ap {B = Refusal} (λ (k : ℕ). record { why = q .why; place = k }) p
+
+pub same-answer : (a b : Answer) → answer a ≡ answer b → a ≡ b
+same-answer (A.Is m) (A.Is n) e = ap A.Is (cc)
+same-answer (A.Is m) (A.Refused q) e = cc
+same-answer (A.Refused r) (A.Is n) e = cc
+same-answer (A.Refused r) (A.Refused q) e = ap A.Refused (same-refusal r q e)

@@ -1,0 +1,143 @@
+-- What holds of the units of a block that was accepted: each passed its checks, and they lie one after another.
+use Prim.Native.Nat.{ℕ, zero, suc, _+_, _*_, _≤_, _<_}
+use native.Mathlib.Nat.{not-suc-le-zero}
+use native.Mathlib.Omega.{arith}
+use mathlib.Core.Path.{_≡_}
+use mathlib.Core.Bool.{true}
+use mathlib.Core.List.{List}
+use lib.Dec.{eqb}
+use lib.IntN.{ℤ, pos, negℤ}
+use lib.ListN.{length}
+use lib.Signed.{leZ}
+use borrow.Author.Tests.{leb-true}
+use Rattle.numbers.specs.Range.{Within}
+use Rattle.numbers.specs.Choice.{pick}
+use Rattle.numbers.specs.Column.{AllWithin}
+use Rattle.numbers.proofs.Integers.{zarith, neg, one-side, by-test}
+use Rattle.numbers.proofs.Columns.{column-within-below}
+use Rattle.terms.specs.Reply.{is}
+use Rattle.terms.specs.Quantities.{consideredOf}
+use Rattle.terms.specs.Checks.{inRange, amountChecks}
+use Rattle.terms.specs.declared.refusal.Checked.the-variants.{Fine}
+use Rattle.terms.proofs.Replies.{next-is}
+use Rattle.terms.proofs.Passing.{passes}
+use Rattle.records.specs.declared.unit.UnitRecord.{UnitRecord}
+use Rattle.records.specs.Layouts.{unitAt}
+use Rattle.records.specs.Reading.{unitFieldsOf, unitOf, unitsOf, unitFaults, valueFaults, markFaults, unitIn}
+use Rattle.records.specs.Decoding.{unitN0, n0In, pcIn, stepDownIn, stepUpIn, Holds}
+use Rattle.records.proofs.Checks.{both, also-fine, passed-is}
+use Rattle.records.proofs.Turns.{unit-long}
+
+-- a quantity in its range
+pub range-within : (z : ℤ) → inRange z ≡ true → Within 1000000 z
+range-within z e =
+    let b = both (leZ (negℤ (pos 1000000)) z) (leZ z (pos 1000000)) e in
+    let low = b .0 in
+    let high = b .1 in
+    omega (zarith, one-side z)
+
+-- the considered nomination is N, -PC or 0
+pub n0-within : (nominated coincide : ℕ) (n pc : ℤ) → Within 1000000 n → Within 1000000 pc → Within 1000000 (consideredOf nominated coincide n pc)
+n0-within nominated coincide n pc hn hp =
+    by-test (eqb nominated 1) (λ t. Within 1000000 (pick t n (pick (eqb coincide 1) (negℤ pc) (pos 0))))
+    (λ h. hn)
+    (λ h. by-test (eqb coincide 1) (λ t. Within 1000000 (pick t (negℤ pc) (pos 0))) (λ k. omega (zarith, neg pc)) (λ k. omega zarith))
+
+-- what the checks leave of a unit's values
+pub record Sound (u : UnitRecord) : Type 0 where
+  pub class : u .class ≤ 1
+  pub coincide : u .coincide ≤ 1
+  pub nominated : u .nominated ≤ 1
+  pub n : Within 1000000 (u .n .0)
+  pub pc : Within 1000000 (u .pc .0)
+  pub step-down : Within 1000000 (u .«step_down»)
+  pub step-up : Within 1000000 (u .«step_up»)
+  pub n0 : Within 1000000 (unitN0 u)
+  pub ordered : leZ (u .«step_down») (u .«step_up») ≡ true
+
+pub sound : (u : UnitRecord) (floor : ℕ) → valueFaults u floor ≡ Fine → Sound u
+unfolding valueFaults markFaults amountChecks
+sound u floor e =
+    let a = also-fine _ _ e in
+    let number = passes _ _ _ (a .0) in
+    let class = passes _ _ _ (number .1) in
+    let coincide = passes _ _ _ (class .1) in
+    let nominated = passes _ _ _ (coincide .1) in
+    let n = passes _ _ _ (a .1) in
+    let pc = passes _ _ _ (n .1) in
+    let down = passes _ _ _ (pc .1) in
+    let up = passes _ _ _ (down .1) in
+    let hn = range-within _ (n .0) in
+    let hp = range-within _ (pc .0) in
+    record {
+      class = leb-true _ _ (class .0);
+      coincide = leb-true _ _ (coincide .0);
+      nominated = leb-true _ _ (nominated .0);
+      n = hn;
+      pc = hp;
+      step-down = range-within _ (down .0);
+      step-up = range-within _ (up .0);
+      n0 = n0-within (u .nominated) (u .coincide) _ _ hn hp;
+      ordered = passes _ _ _ (up .1) .0;
+    }
+
+-- a unit that was read is that of the layout, and passed
+pub unit-is : (s : List ℕ) (at floor run limit : ℕ) {u : UnitRecord} → unitOf s at floor run limit ≡ is u
+    → (unitFaults (unitAt s at) floor run limit ≡ Fine) × (u ≡ unitAt s at)
+unfolding unitOf unitFieldsOf
+unit-is s at floor run limit e =
+    let p = passed-is _ _ _ (next-is _ _ e .1 .1) in
+    (p .0, cc (p .1))
+
+pub unit-sound : (s : List ℕ) (at floor run limit : ℕ) {u : UnitRecord} → unitOf s at floor run limit ≡ is u → Sound (unitAt s at)
+unfolding unitFaults
+unit-sound s at floor run limit e = sound _ floor (also-fine _ _ (unit-is s at floor run limit e .0) .0)
+
+pub record Accepted (s : List ℕ) (at count end : ℕ) : Type 0 where
+  pub ends : end ≡ at + 26 * count
+  pub long : at ≤ length s → end ≤ length s
+  pub each : (i : ℕ) → i < count → Sound (unitAt s (at + 26 * i))
+
+pub accepted : (s : List ℕ) (at floor run limit count : ℕ) {end : ℕ} → unitsOf s at floor run limit count ≡ is end → Accepted s at count end
+unfolding unitsOf
+accepted s at floor run limit zero {end} e =
+    let h : at ≡ end = cc in
+    record { ends = omega arith; long = λ l. omega arith; each = λ i l. absurd (not-suc-le-zero l) }
+accepted s at floor run limit (suc count) {end} e =
+    let a = next-is _ _ e in
+    let long = unit-long s at floor run limit (a .1 .0) in
+    let rest = accepted s (at + 26) (a .0 .number + 1) run limit count (a .1 .1) in
+    record { ends = omega (arith, rest .ends); long = λ l. rest .long long; each = each (unit-sound s at floor run limit (a .1 .0)) (rest .each) }
+  where
+    each : Sound (unitAt s at) → ((i : ℕ) → i < count → Sound (unitAt s (at + 26 + 26 * i))) → (i : ℕ) → i < suc count → Sound (unitAt s (at + 26 * i))
+    each first rest zero l =
+        let here : at + 26 * 0 ≡ at = omega arith in
+        rw here first
+    each first rest (suc i) l =
+        let there : at + 26 * suc i ≡ at + 26 + 26 * i = omega arith in
+        rw there (rest i (omega arith))
+
+-- a block whose units were accepted, as columns
+module _ (s : List ℕ) (run limit count : ℕ) {end : ℕ} (e : unitsOf s 10 0 run limit count ≡ is end) where
+  pub unit-in : (i : ℕ) → i < count → Sound (unitIn s i)
+  unit-in = accepted s 10 0 run limit count e .each
+
+  pub block-end : end ≡ 10 + 26 * count
+  block-end = accepted s 10 0 run limit count e .ends
+
+  pub holds : 10 ≤ length s → Holds s count
+  holds h =
+      let a = accepted s 10 0 run limit count e in
+      record { long = omega (arith, a .ends, a .long h); positions = λ i l. unit-in i l .pc }
+
+  pub n0-all : AllWithin 1000000 (n0In s count)
+  n0-all = column-within-below 1000000 _ count (λ i l. unit-in i l .n0)
+
+  pub pc-all : AllWithin 1000000 (pcIn s count)
+  pc-all = column-within-below 1000000 _ count (λ i l. unit-in i l .pc)
+
+  pub step-down-all : AllWithin 1000000 (stepDownIn s count)
+  step-down-all = column-within-below 1000000 _ count (λ i l. unit-in i l .step-down)
+
+  pub step-up-all : AllWithin 1000000 (stepUpIn s count)
+  step-up-all = column-within-below 1000000 _ count (λ i l. unit-in i l .step-up)

@@ -1,0 +1,9 @@
+-- Laws of reading house records.
+pub mod Checks
+pub mod Fields
+pub mod Heads
+pub mod Turns
+pub mod Filling
+pub mod Accepted
+pub mod Unique
+pub mod Read

@@ -1,0 +1,69 @@
+-- A day record's fields: 3 is handed upward, and else the values are those of the layout.
+use mathlib.Core.Path.{sym, ap, _∙_}
+use Rattle.records.specs.Answers.{byteReply}
+use Rattle.records.specs.Layouts.{dayAt}
+use Rattle.records.specs.Reading.{dayFieldsOf}
+use Rattle.records.proofs.Fields.{field-out, field-in, past}
+use borrow.Author.Needs.{needs}
+use Rattle.records.proofs.day.day_fields.Statement.{statement}
+use Rattle.records.proofs.day.day_fields.Tie as tie
+
+quarters-at-requires : tie.Need-quarters-at-requires
+quarters-at-requires c κs = search needs
+
+enum-known-q : tie.Need-enum-known-q
+enum-known-q c = search needs
+
+enum-told : tie.Need-enum-told
+enum-told c = search needs
+
+refusal-requires : tie.Need-refusal-requires
+refusal-requires c κs = search needs
+
+returns : tie.Need-returns
+unfolding dayFieldsOf
+returns c =
+    let told = c .before .enum-told .given .1 in
+    rw (c .refusal .ensures, told) (field-out _ _ _ _ _ (sym (ap byteReply told) ∙ c .before .before .before .quarters-at .ensures))
+
+u16-at-requires : tie.Need-u16-at-requires
+u16-at-requires c κs = search needs
+
+u32-at-requires : tie.Need-u32-at-requires
+u32-at-requires c κs = search needs
+
+u16-at-requires-2 : tie.Need-u16-at-requires-2
+u16-at-requires-2 c κs = search needs
+
+u16-at-requires-3 : tie.Need-u16-at-requires-3
+u16-at-requires-3 c κs = search needs
+
+new-requires : tie.Need-new-requires
+new-requires c κs = search needs
+
+returns-2 : tie.Need-returns-2
+unfolding dayFieldsOf dayAt
+returns-2 c =
+    let q = c .before .before .before .before .before .before in
+    let p = field-in _ _ _ _ (sym (ap byteReply (q .q .given .1)) ∙ q .before .before .quarters-at .ensures) in
+    let margins = c .before .u16-at3 .ensures in
+    let positions = c .before .before .u16-at2 .ensures in
+    let run = c .before .before .before .u32-at .ensures in
+    let day = c .before .before .before .before .u16-at .ensures in
+    past _ _ _ _ (p .0) (rw (c .new .ensures, day, p .1, run, positions, margins))
+
+pub day-fields-spec : {M : Type 1} → statement M
+day-fields-spec =
+    tie.close
+    (tie.spec
+    quarters-at-requires
+    enum-known-q
+    enum-told
+    refusal-requires
+    returns
+    u16-at-requires
+    u32-at-requires
+    u16-at-requires-2
+    u16-at-requires-3
+    new-requires
+    returns-2)

@@ -1,0 +1,44 @@
+-- A day record is read as `dayOf` says: its head, and then its fields.
+use mathlib.Core.Path.{sym, ap, _∙_}
+use Rattle.terms.specs.Reply.{next}
+use Rattle.terms.specs.Refusals.{answer}
+use Rattle.records.specs.Reading.{dayOf}
+use Rattle.records.proofs.Heads.{headed}
+use borrow.Author.Needs.{needs}
+use Rattle.records.proofs.day.read_day.Statement.{statement}
+use Rattle.records.proofs.day.read_day.Tie as tie
+
+head-requires : tie.Need-head-requires
+head-requires c κs = search needs
+
+enum-told : tie.Need-enum-told
+enum-told c = search needs
+
+enum-told-2 : tie.Need-enum-told-2
+enum-told-2 c = search needs
+
+refusal-requires : tie.Need-refusal-requires
+refusal-requires c κs = search needs
+
+returns : tie.Need-returns
+unfolding dayOf next
+returns c = rw (c .refusal .ensures, ← (c .before .before .before .head .ensures), c .before .enum-told2 .given .1)
+
+day-fields-requires : tie.Need-day-fields-requires
+day-fields-requires c κs = headed _ _ _ _ (sym (c .before .before .head .ensures) ∙ ap answer (c .enum-told .given .1)) .long
+
+returns-2 : tie.Need-returns-2
+unfolding dayOf next
+returns-2 c = rw (← (c .before .before .before .head .ensures), c .before .enum-told .given .1) (c .day-fields .ensures)
+
+pub read-day-spec : {M : Type 1} → statement M
+read-day-spec =
+    tie.close
+    (tie.spec
+    head-requires
+    enum-told
+    enum-told-2
+    refusal-requires
+    returns
+    day-fields-requires
+    returns-2)

@@ -1,0 +1,145 @@
+-- "Numbers given back", for records that are read. Each record: 1 if empty, 2, 1, then fields; the first refused field ends the reading.
+use Prim.Native.Nat.{ℕ, zero, suc, _+_, _-_, _*_}
+use mathlib.Core.Bool.{Bool, true, _&&_, _||_}
+use mathlib.Core.List.{List}
+use lib.Dec.{eqb, leb, ltb}
+use lib.IntN.{pos}
+use lib.ListN.{length}
+use Rattle.numbers.specs.Bytes.{byteAt}
+use Rattle.numbers.specs.Choice.{pick, eqZ}
+use Rattle.terms.specs.Reply.{Reply, is, need, next}
+use Rattle.terms.specs.Refusals.{check, passed}
+use Rattle.terms.specs.Checks.{isFlag, amountChecks}
+use Rattle.terms.specs.declared.refusal.Fault.{Fault}
+use Rattle.terms.specs.declared.refusal.Fault.the-variants as F
+use Rattle.terms.specs.declared.refusal.Checked.{Checked}
+use Rattle.terms.specs.declared.refusal.Checked.the-variants.{Fine, Faulty}
+use Rattle.records.specs.declared.day.DayRecord.{DayRecord}
+use Rattle.records.specs.declared.group.GroupRecord.{GroupRecord}
+use Rattle.records.specs.declared.unit.UnitRecord.{UnitRecord}
+use Rattle.records.specs.declared.end.EndRecord.{EndRecord}
+use Rattle.records.specs.declared.key.Key.{Key}
+use Rattle.records.specs.declared.key.Last.{Last}
+use Rattle.records.specs.declared.key.Last.the-variants.{Nothing, Block}
+use Rattle.records.specs.Layouts.{dayKind, dayLength, dayQuarters, dayAt}
+use Rattle.records.specs.Layouts.{groupKind, groupLength, groupBrp, groupQuarter, groupCount, groupMade, groupAt}
+use Rattle.records.specs.Layouts.{unitKind, unitLength, unitAt}
+use Rattle.records.specs.Layouts.{unitNumber, unitClass, unitCoincide, unitNominated, unitN, unitPc, unitStepDown, unitStepUp, unitMade}
+use Rattle.records.specs.Layouts.{endKind, endLength, endGroups, endAt}
+
+-- the head of a record of a kind and a length that is to begin at a place; where it ends
+unfoldable pub headOf : List ℕ → ℕ → ℕ → ℕ → Reply ℕ
+headOf s at kind len =
+    need (ltb at (length s)) 1 (length s)
+    (need (eqb (byteAt s at) kind) 2 at
+    (need (leb (at + len) (length s)) 1 (length s)
+    (is (at + len))))
+
+-- an age is run minute less made minute; it must be 0 up to the limit
+abbrev pub aged : ℕ → ℕ → ℕ → Bool
+aged run made limit = leb made run && leb (run - made) limit
+
+-- ---- the day record
+-- the quarters of a day
+abbrev pub permitted : ℕ → Bool
+permitted quarters = eqb quarters 92 || (eqb quarters 96 || eqb quarters 100)
+
+unfoldable pub dayFieldsOf : List ℕ → Reply DayRecord
+dayFieldsOf s = need (permitted (dayAt s 0 .quarters)) 3 (dayQuarters .place) (is (dayAt s 0))
+
+unfoldable pub dayOf : List ℕ → Reply DayRecord
+dayOf s = next (headOf s 0 dayKind dayLength) λ _. dayFieldsOf s
+
+-- ---- the group record
+-- a group has 1 to 64 units
+abbrev pub unitCount : ℕ → Bool
+unitCount count = leb 1 count && leb count 64
+
+-- blocks rise strictly by (BRP, zone, quarter)
+abbrev pub below : Key → Key → Bool
+below a b =
+    pick (eqb (a .brp) (b .brp))
+    (pick (eqb (a .zone) (b .zone))
+    (ltb (a .quarter) (b .quarter))
+    (ltb (a .zone) (b .zone)))
+    (ltb (a .brp) (b .brp))
+
+abbrev pub follows : Last → Key → Bool
+follows Nothing key = true
+follows (Block last) key = below last key
+
+abbrev pub keyOf : GroupRecord → Key
+keyOf g = record { brp = g .brp; zone = g .zone; quarter = g .quarter }
+
+unfoldable pub groupFieldsOf : List ℕ → DayRecord → Last → Reply GroupRecord
+groupFieldsOf s day last =
+    need (ltb (groupAt s 0 .quarter) (day .quarters)) 4 (groupQuarter .place)
+    (need (unitCount (groupAt s 0 .count)) 5 (groupCount .place)
+    (need (follows last (keyOf (groupAt s 0))) 13 (groupBrp .place)
+    (need (aged (day .run) (groupAt s 0 .made) (day .«position_limit»)) 10 (groupMade .place)
+    (is (groupAt s 0)))))
+
+unfoldable pub groupOf : List ℕ → DayRecord → Last → Reply GroupRecord
+groupOf s day last = next (headOf s 0 groupKind groupLength) λ _. groupFieldsOf s day last
+
+-- ---- the end record
+unfoldable pub endFieldsOf : List ℕ → ℕ → Reply EndRecord
+endFieldsOf s groups = need (eqb (endAt s 0 .groups) groups) 14 (endGroups .place) (is (endAt s 0))
+
+unfoldable pub endOf : List ℕ → ℕ → Reply EndRecord
+endOf s groups = next (headOf s 0 endKind endLength) λ _. endFieldsOf s groups
+
+-- ---- the unit records of a block
+-- the checks that come after others, where those pass
+unfoldable pub also : Checked → Checked → Checked
+also Fine rest = rest
+also (Faulty fault) rest = Faulty fault
+
+-- 6 and 7; the floor is 0 for the first unit of a block, and then the number before plus 1
+unfoldable pub markFaults : UnitRecord → ℕ → Checked
+markFaults u floor =
+    check (leb floor (u .number)) F.Number
+    (check (isFlag (u .class)) F.Class
+    (check (isFlag (u .coincide)) F.Coincide
+    (check (isFlag (u .nominated)) F.Nominated
+    (check (eqb (u .nominated) 1 || eqZ (u .n .0) (pos 0)) F.NotNominated
+    Fine))))
+
+-- 6, 7, 8, 9: what a unit's values can have wrong
+unfoldable pub valueFaults : UnitRecord → ℕ → Checked
+valueFaults u floor = also (markFaults u floor) (amountChecks (u .n .0) (u .pc .0) (u .«step_down») (u .«step_up»))
+
+-- the same, and then 11
+unfoldable pub unitFaults : UnitRecord → ℕ → ℕ → ℕ → Checked
+unitFaults u floor run limit = also (valueFaults u floor) (check (aged run (u .made) limit) F.Age Fine)
+
+-- the place in the record of what is at fault
+abbrev pub faultPlace : Fault → ℕ
+faultPlace F.Number = unitNumber .place
+faultPlace F.Class = unitClass .place
+faultPlace F.Coincide = unitCoincide .place
+faultPlace F.Nominated = unitNominated .place
+faultPlace F.NotNominated = unitN .place
+faultPlace F.N = unitN .place
+faultPlace F.Pc = unitPc .place
+faultPlace F.StepDown = unitStepDown .place
+faultPlace F.StepUp = unitStepUp .place
+faultPlace F.Crossed = unitStepUp .place
+faultPlace F.Age = unitMade .place
+
+unfoldable pub unitFieldsOf : List ℕ → ℕ → ℕ → ℕ → ℕ → Reply UnitRecord
+unitFieldsOf s at floor run limit =
+    passed (λ fault. at + faultPlace fault) (unitFaults (unitAt s at) floor run limit) (is (unitAt s at))
+
+unfoldable pub unitOf : List ℕ → ℕ → ℕ → ℕ → ℕ → Reply UnitRecord
+unitOf s at floor run limit = next (headOf s at unitKind unitLength) λ _. unitFieldsOf s at floor run limit
+
+-- so many units from a place on; where they end
+unfoldable pub unitsOf : List ℕ → ℕ → ℕ → ℕ → ℕ → ℕ → Reply ℕ
+unitsOf s at floor run limit zero = is at
+unitsOf s at floor run limit (suc left) =
+    next (unitOf s at floor run limit) λ u. unitsOf s (at + unitLength) (u .number + 1) run limit left
+
+-- the unit of index i in a block
+abbrev pub unitIn : List ℕ → ℕ → UnitRecord
+unitIn s i = unitAt s (groupLength + unitLength * i)

@@ -1,0 +1,14 @@
+// House records: their types and layouts, and reading them.
+pub mod age;
+pub mod day;
+pub mod decode;
+pub mod end;
+pub mod faults;
+pub mod field;
+pub mod group;
+pub mod group_result;
+pub mod head;
+pub mod key;
+pub mod unit;
+pub mod unit_result;
+pub mod units;

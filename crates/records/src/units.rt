@@ -1,0 +1,78 @@
+// The units of a block, read one after another.
+ghost use mathlib.Core.Path.{_≡_};
+ghost use Prim.Native.Nat.{_+_, _≤_};
+ghost use lib.ListN.{length};
+ghost use Rattle.terms.specs.Refusals.{answer};
+ghost use Rattle.records.specs.Answers.{unitReply, unitRefusal};
+ghost use Rattle.records.specs.Layouts.{unitLength};
+ghost use Rattle.records.specs.Reading.{unitFieldsOf, unitOf, unitsOf};
+use crate::faults::unit_faults;
+use crate::field::no_refusal;
+use crate::head::head;
+use crate::unit::UnitRecord;
+use crate::unit::unit_fields;
+use terms::refusal::Answer;
+use terms::refusal::Checked;
+use terms::refusal::Refusal;
+
+pub enum UnitAnswer {
+    Is(UnitRecord),
+    Refused(Refusal),
+}
+
+impl UnitAnswer {
+    pub fn refusal(self) -> Refusal
+        ensures { λ r. ⌜ r ≡ unitRefusal self ⌝ }
+    {
+        match self {
+            UnitAnswer::Is(_) => no_refusal(),
+            UnitAnswer::Refused(r) => r,
+        }
+    }
+}
+
+// A unit record that is there whole, judged.
+fn unit_judged(s: &[u8], at: usize, floor: u32, run: u32, limit: u16) -> UnitAnswer
+    requires { ⌜ at + unitLength ≤ length (now s) ⌝ }
+    ensures { λ r. ⌜ unitReply r ≡ unitFieldsOf (now (s .entry)) at floor run limit ⌝ }
+{
+    let u = unit_fields(s, at);
+    let c = unit_faults(u, floor, run, limit);
+    let Checked::Faulty(fault) = c else {
+        return UnitAnswer::Is(u);
+    };
+    UnitAnswer::Refused(Refusal {
+        why: fault.why(),
+        place: at + UnitRecord::place_of(fault),
+    })
+}
+
+// The unit record at a place: its number is at least the floor, its margins are no older than the limit.
+pub fn unit_at(s: &[u8], at: usize, floor: u32, run: u32, limit: u16) -> UnitAnswer
+    ensures { λ r. ⌜ unitReply r ≡ unitOf (now (s .entry)) at floor run limit ⌝ }
+{
+    let h = head(s, at, UnitRecord::KIND, UnitRecord::LEN);
+    let Answer::Is(_) = h else {
+        return UnitAnswer::Refused(h.refusal());
+    };
+    unit_judged(s, at, floor, run, limit)
+}
+
+// So many units from a place on: the first refusal, or where they end.
+pub fn units_from(s: &[u8], at: usize, count: usize, run: u32, limit: u16) -> Answer
+    ensures { λ r. ⌜ answer r ≡ unitsOf (now (s .entry)) at 0 run limit count ⌝ }
+{
+    let mut floor: u32 = 0;
+    let mut here = at;
+    let mut i = 0;
+    while i < count {
+        let r = unit_at(s, here, floor, run, limit);
+        let UnitAnswer::Is(u) = r else {
+            return Answer::Refused(r.refusal());
+        };
+        floor = (u.number as u32) + 1;
+        here += UnitRecord::LEN;
+        i += 1;
+    }
+    Answer::Is(here)
+}

@@ -1,0 +1,49 @@
+-- What a reader accepted, written again from its values, gives the same bytes: each record is laid as the bytes that it was read from.
+use Prim.Native.Nat.{ℕ, _≤_}
+use mathlib.Core.Path.{_≡_, sym, _∙_}
+use mathlib.Core.List.{List, _++_}
+use lib.Dec.{eqb}
+use lib.ListN.{length, take, drop}
+use lib.Seq.{take-at}
+use borrow.Author.Tests.{le-leb}
+use Rattle.numbers.specs.Bytes.{Bytes}
+use Rattle.terms.specs.Reply.{Reply, is, need}
+use Rattle.terms.specs.Refusals.{answer}
+use Rattle.terms.specs.declared.refusal.Answer.{Answer}
+use Rattle.terms.proofs.Replies.{next-is}
+use Rattle.records.specs.declared.day.DayRecord.{DayRecord}
+use Rattle.records.specs.declared.end.EndRecord.{EndRecord}
+use Rattle.records.specs.Layouts.{dayAt, dayBytes, endAt, endBytes}
+use Rattle.records.specs.Reading.{permitted, dayFieldsOf, dayOf, endFieldsOf, endOf}
+use Rattle.records.proofs.Fields.{field-in}
+use Rattle.records.proofs.Heads.{headed}
+use Rattle.writers.specs.Writing.{Wrote, laid, roomFor, writeDayOf, DayWritten, writeEndOf, EndWritten}
+use Rattle.writers.proofs.Lengths.{length-day, length-end}
+use Rattle.writers.proofs.Fields.{day-laid, end-laid}
+
+-- a writer that takes the values leaves these bytes in the room
+pub written : {right : Reply ℕ} (bytes entry : List ℕ) {r : Answer} {exit : List ℕ} (n : ℕ) (s : List ℕ) → Wrote right bytes entry r exit → right ≡ is n
+    → length bytes ≡ n → bytes ≡ take n s → (answer r ≡ is n) × (take n exit ≡ take n s)
+unfolding laid
+written bytes entry {r} {exit} n s w q l e =
+    let x : exit ≡ bytes ++ drop n entry = w .room ∙ rw q in
+    (w .replied ∙ q, rw x (take-at bytes (drop n entry) n l ∙ e))
+
+module _ (s : List ℕ) (small : Bytes s) {entry exit : List ℕ} {r : Answer} where
+  pub day-again : (d : DayRecord) → dayOf s ≡ is d → 12 ≤ length entry → DayWritten d entry r exit → (answer r ≡ is 12) × (take 12 exit ≡ take 12 s)
+  unfolding dayOf dayFieldsOf writeDayOf roomFor need
+  day-again d e h w =
+      let a = next-is _ _ e in
+      let b = field-in (permitted (dayAt s 0 .quarters)) 3 3 (dayAt s 0) (sym (a .1 .1)) in
+      let p = rw (← b .1) at (b .0) in
+      let l = rw (← b .1) at (day-laid s small 0 (headed s 0 1 12 (a .1 .0))) in
+      written (dayBytes d) entry 12 s w (simp (p, le-leb 12 (length entry) h)) (length-day d) l
+
+  pub end-again : (x : EndRecord) (groups : ℕ) → endOf s groups ≡ is x → 5 ≤ length entry → EndWritten x entry r exit
+      → (answer r ≡ is 5) × (take 5 exit ≡ take 5 s)
+  unfolding endOf endFieldsOf writeEndOf roomFor need
+  end-again x groups e h w =
+      let a = next-is _ _ e in
+      let b = field-in (eqb (endAt s 0 .groups) groups) 14 1 (endAt s 0) (sym (a .1 .1)) in
+      let l = rw (← b .1) at (end-laid s small 0 (headed s 0 15 5 (a .1 .0))) in
+      written (endBytes x) entry 5 s w (simp (le-leb 5 (length entry) h)) (length-end x) l

@@ -1,0 +1,13 @@
+-- Laws of the writers.
+pub mod Writes
+pub mod Runs
+pub mod Lengths
+pub mod Scanned
+pub mod Accepted
+pub mod Tables
+pub mod Fields
+pub mod Readers
+pub mod Back
+pub mod Again
+pub mod BlockAgain
+pub mod Unique

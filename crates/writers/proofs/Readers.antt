@@ -1,0 +1,69 @@
+-- What was laid at a place is accepted by the reading of its record, under the tests that the reading makes.
+use Prim.Native.Nat.{ℕ, _+_, _-_, _≤_}
+use mathlib.Core.Path.{_≡_, refl, sym, ap, _∙_}
+use mathlib.Core.Bool.{true}
+use mathlib.Core.List.{List, _++_}
+use native.Mathlib.Omega.{arith}
+use lib.ListN.{length, drop, length-append, length-drop, List·getD-append}
+use lib.Seq.{getD-drop}
+use borrow.Author.Tests.{lt-ltb, le-leb, eq-eqb}
+use Rattle.numbers.specs.Bytes.{byteAt, bytes16, bytes32}
+use Rattle.terms.specs.Reply.{is, need, next}
+use Rattle.terms.specs.Refusals.{passed}
+use Rattle.terms.specs.declared.refusal.Checked.the-variants.{Fine}
+use Rattle.records.specs.declared.day.DayRecord.{DayRecord}
+use Rattle.records.specs.declared.group.GroupRecord.{GroupRecord}
+use Rattle.records.specs.declared.unit.UnitRecord.{UnitRecord}
+use Rattle.records.specs.declared.end.EndRecord.{EndRecord}
+use Rattle.records.specs.declared.key.Last.{Last}
+use Rattle.records.specs.Layouts.{behind, dayBytes, groupBytes, unitBytes, endBytes}
+use Rattle.records.specs.Reading.{headOf, permitted, dayFieldsOf, dayOf, unitCount, groupFieldsOf, groupOf, endFieldsOf, endOf, unitFaults, unitFieldsOf, unitOf}
+use Rattle.writers.specs.Trips.{Joins}
+use Rattle.writers.proofs.Fields.{HeldUnit, day-read, group-read, unit-read, end-read}
+
+head-read : (s : List ℕ) (at kind len : ℕ) (bytes rest : List ℕ) → drop at s ≡ bytes ++ rest → byteAt bytes 0 ≡ kind → length bytes ≡ len → 1 ≤ len
+    → headOf s at kind len ≡ is (at + len)
+unfolding headOf need
+head-read s at kind len bytes rest e k n h =
+    let l : length s - at ≡ len + length rest = sym (length-drop at s) ∙ ap length e ∙ length-append bytes rest ∙ omega arith in
+    let z : at + 0 ≡ at = omega arith in
+    let first : byteAt s at ≡ kind =
+    ap (byteAt s) (sym z) ∙ sym (getD-drop at s 0 0) ∙ ap (λ (l : List ℕ). byteAt l 0) e ∙ List·getD-append bytes rest 0 0 (omega arith) ∙ k in
+    simp (lt-ltb at (length s) (omega arith), eq-eqb (byteAt s at) kind first, le-leb (at + len) (length s) (omega arith))
+
+module _ (s : List ℕ) (at : ℕ) (rest : List ℕ) where
+  day-head : (d : DayRecord) → drop at s ≡ dayBytes d ++ rest → headOf s at 1 12 ≡ is (at + 12)
+  unfolding dayBytes behind bytes16 bytes32
+  day-head d e = head-read s at 1 12 (dayBytes d) rest e refl refl (omega arith)
+
+  group-head : (g : GroupRecord) → drop at s ≡ groupBytes g ++ rest → headOf s at 2 10 ≡ is (at + 10)
+  unfolding groupBytes behind bytes16 bytes32
+  group-head g e = head-read s at 2 10 (groupBytes g) rest e refl refl (omega arith)
+
+  unit-head : (u : UnitRecord) → drop at s ≡ unitBytes u ++ rest → headOf s at 3 26 ≡ is (at + 26)
+  unfolding unitBytes behind bytes16 bytes32
+  unit-head u e = head-read s at 3 26 (unitBytes u) rest e refl refl (omega arith)
+
+  end-head : (x : EndRecord) → drop at s ≡ endBytes x ++ rest → headOf s at 15 5 ≡ is (at + 5)
+  unfolding endBytes behind bytes16 bytes32
+  end-head x e = head-read s at 15 5 (endBytes x) rest e refl refl (omega arith)
+
+  pub unit-reads : (u : UnitRecord) (floor run limit : ℕ) → drop at s ≡ unitBytes u ++ rest → HeldUnit u → unitFaults u floor run limit ≡ Fine
+      → unitOf s at floor run limit ≡ is u
+  unfolding unitOf unitFieldsOf next passed
+  unit-reads u floor run limit e h f = simp (unit-head u e, unit-read s at rest u h e, f)
+
+-- records at the front
+module _ (s rest : List ℕ) where
+  pub day-reads : (d : DayRecord) → s ≡ dayBytes d ++ rest → permitted (d .quarters) ≡ true → dayOf s ≡ is d
+  unfolding dayOf dayFieldsOf next need
+  day-reads d e p = simp (day-head s 0 rest d e, day-read s 0 rest d e, p)
+
+  pub group-reads : (g : GroupRecord) (day : DayRecord) (last : Last) → s ≡ groupBytes g ++ rest → unitCount (g .count) ≡ true → Joins g day last → groupOf s day last ≡ is g
+  unfolding groupOf groupFieldsOf next need
+  group-reads g day last e n j =
+      simp (group-head s 0 rest g e, group-read s 0 rest g e, lt-ltb (g .quarter) (day .quarters) (j .early), n, j .above, j .fresh)
+
+  pub end-reads : (x : EndRecord) → s ≡ endBytes x ++ rest → endOf s (x .groups) ≡ is x
+  unfolding endOf endFieldsOf next need
+  end-reads x e = simp (end-head s 0 rest x e, end-read s 0 rest x e, eq-eqb (x .groups) (x .groups) refl)

@@ -1,0 +1,96 @@
+-- "Ways in": a block's units as nine columns, one for each field of the unit record.
+use Prim.Native.Nat.{ℕ, zero, suc, _+_, _≤_}
+use mathlib.Core.Bool.{Bool, true, _&&_}
+use mathlib.Core.List.{List, [], _∷_}
+use lib.Dec.{eqb}
+use lib.IntN.{ℤ, pos}
+use lib.ListN.{length, getD}
+use Rattle.terms.specs.declared.refusal.Checked.{Checked}
+use Rattle.records.specs.declared.unit.UnitRecord.{UnitRecord}
+use Rattle.records.specs.Reading.{valueFaults}
+
+pub record Columns : Type 0 where
+  pub number : List ℕ
+  pub class : List ℕ
+  pub coincide : List ℕ
+  pub nominated : List ℕ
+  pub n : List ℤ
+  pub pc : List ℤ
+  pub step-down : List ℤ
+  pub step-up : List ℤ
+  pub made : List ℕ
+
+abbrev pub columns : List ℕ → List ℕ → List ℕ → List ℕ → List ℤ → List ℤ → List ℤ → List ℤ → List ℕ → Columns
+columns number class coincide nominated n pc step-down step-up made =
+    record {
+      number = number;
+      class = class;
+      coincide = coincide;
+      nominated = nominated;
+      n = n;
+      pc = pc;
+      step-down = step-down;
+      step-up = step-up;
+      made = made;
+    }
+
+-- the unit of an index
+unfoldable pub rowOf : Columns → ℕ → UnitRecord
+rowOf c i =
+    record {
+      number = getD (c .number) i 0;
+      class = getD (c .class) i 0;
+      coincide = getD (c .coincide) i 0;
+      nominated = getD (c .nominated) i 0;
+      n = record { 0 = getD (c .n) i (pos 0) };
+      pc = record { 0 = getD (c .pc) i (pos 0) };
+      «step_down» = getD (c .step-down) i (pos 0);
+      «step_up» = getD (c .step-up) i (pos 0);
+      made = getD (c .made) i 0;
+    }
+
+-- how many units there are
+abbrev pub count : Columns → ℕ
+count c = length (c .number)
+
+-- whether so many lengths are all the same
+unfoldable pub same : ℕ → List ℕ → Bool
+same n [] = true
+same n (m ∷ ms) = eqb m n && same n ms
+
+-- columns of equal length
+unfoldable pub even : Columns → Bool
+even c =
+    same
+    (count c)
+    (length (c .class)
+    ∷ length (c .coincide)
+    ∷ length (c .nominated)
+    ∷ length (c .n)
+    ∷ length (c .pc)
+    ∷ length (c .step-down)
+    ∷ length (c .step-up)
+    ∷ length (c .made)
+    ∷ [])
+
+-- the least number that a unit may have: any for the first, and then one above the number before
+unfoldable pub floorAt : Columns → ℕ → ℕ
+floorAt c zero = 0
+floorAt c (suc i) = getD (c .number) i 0 + 1
+
+-- 6, 7, 8, 9 of the unit of an index
+abbrev pub unitChecks : Columns → ℕ → Checked
+unitChecks c i = valueFaults (rowOf c i) (floorAt c i)
+
+-- the columns are long enough for so many units, of which a group has at most 64
+pub record Long (units : ℕ) (c : Columns) : Type 0 where
+  pub few : units ≤ 64
+  pub number : units ≤ length (c .number)
+  pub class : units ≤ length (c .class)
+  pub coincide : units ≤ length (c .coincide)
+  pub nominated : units ≤ length (c .nominated)
+  pub n : units ≤ length (c .n)
+  pub pc : units ≤ length (c .pc)
+  pub step-down : units ≤ length (c .step-down)
+  pub step-up : units ≤ length (c .step-up)
+  pub made : units ≤ length (c .made)

@@ -1,0 +1,41 @@
+-- What the round trips speak of: a block as columns by the layout, and what a day asks of a block that a writer did not.
+use Prim.Native.Nat.{ℕ, _<_}
+use mathlib.Core.Path.{_≡_}
+use mathlib.Core.Bool.{true}
+use mathlib.Core.List.{List}
+use Rattle.numbers.specs.Column.{column}
+use Rattle.records.specs.declared.day.DayRecord.{DayRecord}
+use Rattle.records.specs.declared.group.GroupRecord.{GroupRecord}
+use Rattle.records.specs.declared.key.Last.{Last}
+use Rattle.records.specs.Layouts.{groupAt}
+use Rattle.records.specs.Reading.{aged, follows, keyOf, unitIn}
+use Rattle.writers.specs.Columns.{Columns, columns, rowOf, count}
+
+-- the values of so many units of a block
+abbrev pub columnsIn : List ℕ → ℕ → Columns
+columnsIn s units =
+    columns
+    (column units λ i. unitIn s i .number)
+    (column units λ i. unitIn s i .class)
+    (column units λ i. unitIn s i .coincide)
+    (column units λ i. unitIn s i .nominated)
+    (column units λ i. unitIn s i .n .0)
+    (column units λ i. unitIn s i .pc .0)
+    (column units λ i. unitIn s i .«step_down»)
+    (column units λ i. unitIn s i .«step_up»)
+    (column units λ i. unitIn s i .made)
+
+-- the bytes hold, by the layouts, this group record and a unit for each row of the columns
+pub record Values (g : GroupRecord) (c : Columns) (s : List ℕ) : Type 0 where
+  pub group : groupAt s 0 ≡ g
+  pub unit : (i : ℕ) → i < count c → unitIn s i ≡ rowOf c i
+
+-- a day takes the group next: 4, 13, 10
+pub record Joins (g : GroupRecord) (day : DayRecord) (last : Last) : Type 0 where
+  pub early : g .quarter < day .quarters
+  pub above : follows last (keyOf g) ≡ true
+  pub fresh : aged (day .run) (g .made) (day .«position_limit») ≡ true
+
+-- the margins of each unit are of an age that the day takes: 11
+pub record Fresh (c : Columns) (day : DayRecord) : Type 0 where
+  pub each : (i : ℕ) → i < count c → aged (day .run) (rowOf c i .made) (day .«margin_limit») ≡ true

@@ -1,0 +1,72 @@
+-- "Numbers given back", for the writers: a refusal writes nothing, and an accepted call writes its record and no byte of the room beyond it.
+use Prim.Native.Nat.{ℕ, _+_, _*_}
+use mathlib.Core.Path.{_≡_}
+use mathlib.Core.List.{List, _++_}
+use lib.Dec.{leb, ltb}
+use lib.ListN.{length, drop}
+use Rattle.terms.specs.Reply.{Reply, is, refused, need, next}
+use Rattle.terms.specs.Refusals.{answer, unitsFrom}
+use Rattle.terms.specs.declared.refusal.Answer.{Answer}
+use Rattle.records.specs.declared.day.DayRecord.{DayRecord}
+use Rattle.records.specs.declared.group.GroupRecord.{GroupRecord}
+use Rattle.records.specs.declared.end.EndRecord.{EndRecord}
+use Rattle.records.specs.Layouts.{dayLength, dayBytes, groupLength, groupBytes, unitLength, unitBytes, endLength, endBytes}
+use Rattle.records.specs.Reading.{permitted, unitCount}
+use Rattle.writers.specs.Runs.{run}
+use Rattle.writers.specs.Columns.{Columns, rowOf, count, even, unitChecks}
+
+-- the room after a reply: the bytes and then the rest of it, or the room as it was
+unfoldable pub laid : Reply ℕ → List ℕ → List ℕ → List ℕ
+laid (is length) bytes room = bytes ++ drop length room
+laid (refused number place) bytes room = room
+
+-- a writer's answer and its room are the right ones
+pub record Wrote (right : Reply ℕ) (bytes entry : List ℕ) (r : Answer) (exit : List ℕ) : Type 0 where
+  pub replied : answer r ≡ right
+  pub room : exit ≡ laid right bytes entry
+
+-- 12 where the room is below the record, whose length is told else
+unfoldable pub roomFor : ℕ → ℕ → Reply ℕ
+roomFor bytes room = need (leb bytes room) 12 0 (is bytes)
+
+-- day: 3, 12
+unfoldable pub writeDayOf : DayRecord → ℕ → Reply ℕ
+writeDayOf d room = need (permitted (d .quarters)) 3 0 (roomFor dayLength room)
+
+abbrev pub DayWritten : DayRecord → List ℕ → Answer → List ℕ → Type 0
+DayWritten d entry r exit = Wrote (writeDayOf d (length entry)) (dayBytes d) entry r exit
+
+-- end: 12
+unfoldable pub writeEndOf : ℕ → Reply ℕ
+writeEndOf room = roomFor endLength room
+
+abbrev pub EndWritten : EndRecord → List ℕ → Answer → List ℕ → Type 0
+EndWritten e entry r exit = Wrote (writeEndOf (length entry)) (endBytes e) entry r exit
+
+-- block: 15, 4, 5, per unit 6, 7, 8, 9 at its index, then 12
+unfoldable pub groupChecks : ℕ → ℕ → Reply ℕ
+groupChecks quarter units = need (ltb quarter 100) 4 0 (need (unitCount units) 5 0 (is units))
+
+abbrev pub blockLength : ℕ → ℕ
+blockLength units = groupLength + unitLength * units
+
+unfoldable pub writeBlockOf : ℕ → Columns → ℕ → Reply ℕ
+writeBlockOf quarter c room =
+    need (even c) 15 0
+    (next (groupChecks quarter (count c)) λ _.
+    next (unitsFrom (unitChecks c) 0 (count c)) λ _.
+    roomFor (blockLength (count c)) room)
+
+-- the group record, whose count is that of the columns' units, and then the units' records
+abbrev pub groupOver : ℕ → ℕ → ℕ → ℕ → Columns → GroupRecord
+groupOver brp zone quarter made c = record { brp = brp; zone = zone; quarter = quarter; count = count c; made = made }
+
+unfoldable pub unitsBytes : Columns → ℕ → List ℕ
+unitsBytes c units = run (λ (i : ℕ). unitBytes (rowOf c i)) units
+
+unfoldable pub blockBytes : GroupRecord → Columns → List ℕ
+blockBytes g c = groupBytes g ++ unitsBytes c (g .count)
+
+abbrev pub BlockWritten : ℕ → ℕ → ℕ → ℕ → Columns → List ℕ → Answer → List ℕ → Type 0
+BlockWritten brp zone quarter made c entry r exit =
+    Wrote (writeBlockOf quarter c (length entry)) (blockBytes (groupOver brp zone quarter made c) c) entry r exit

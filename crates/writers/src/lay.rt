@@ -1,0 +1,123 @@
+// Each record, stored at a place of a room.
+ghost use mathlib.Core.Path.{_≡_};
+ghost use mathlib.Core.List.{[], _∷_};
+ghost use Prim.Native.Nat.{_+_, _≤_};
+ghost use lib.ListN.{length};
+ghost use Rattle.numbers.specs.Bytes.{bytes16, laidAt};
+ghost use Rattle.records.specs.Layouts.{dayBytes, groupBytes, unitBytes, endBytes, groupResultBytes, unitResultBytes};
+ghost use Rattle.writers.specs.Runs.{quantities};
+use numbers::bytes::lay_i32;
+use numbers::bytes::lay_u8;
+use numbers::bytes::lay_u16;
+use numbers::bytes::lay_u32;
+use records::day::DayRecord;
+use records::end::EndRecord;
+use records::group::GroupRecord;
+use records::group_result::GroupResult;
+use records::unit::UnitRecord;
+use records::unit_result::UnitResult;
+
+// The kind, and the number of 16 bits that five of the six records begin with.
+fn lay_head(room: &mut [u8], at: usize, kind: u8, first: u16)
+    requires { ⌜ at + 3 ≤ length (now room) ⌝ }
+    ensures { λ _. ⌜ now (room .exit) ≡ laidAt (now (room .entry)) at (kind ∷ bytes16 first) ⌝ }
+{
+    lay_u8(room, at, kind);
+    lay_u16(room, at + 1, first);
+}
+
+// Three fields of a byte each.
+fn lay_three(room: &mut [u8], at: usize, a: u8, b: u8, c: u8)
+    requires { ⌜ at + 3 ≤ length (now room) ⌝ }
+    ensures { λ _. ⌜ now (room .exit) ≡ laidAt (now (room .entry)) at (a ∷ b ∷ c ∷ []) ⌝ }
+{
+    lay_u8(room, at, a);
+    lay_u8(room, at + 1, b);
+    lay_u8(room, at + 2, c);
+}
+
+// Four fields of signed kWh.
+fn lay_four(room: &mut [u8], at: usize, a: i32, b: i32, c: i32, d: i32)
+    requires { ⌜ at + 16 ≤ length (now room) ⌝ }
+    ensures { λ _. ⌜ now (room .exit) ≡ laidAt (now (room .entry)) at (quantities a b c d) ⌝ }
+{
+    lay_i32(room, at, a);
+    lay_i32(room, at + 4, b);
+    lay_i32(room, at + 8, c);
+    lay_i32(room, at + 12, d);
+}
+
+pub fn lay_day(room: &mut [u8], at: usize, d: DayRecord)
+    requires { ⌜ at + 12 ≤ length (now room) ⌝ }
+    ensures { λ _. ⌜ now (room .exit) ≡ laidAt (now (room .entry)) at (dayBytes d) ⌝ }
+{
+    lay_head(room, at, DayRecord::KIND, d.day);
+    lay_u8(room, at + DayRecord::QUARTERS, d.quarters);
+    lay_u32(room, at + DayRecord::RUN, d.run);
+    lay_u16(room, at + DayRecord::POSITION_LIMIT, d.position_limit);
+    lay_u16(room, at + DayRecord::MARGIN_LIMIT, d.margin_limit);
+}
+
+pub fn lay_group(room: &mut [u8], at: usize, g: GroupRecord)
+    requires { ⌜ at + 10 ≤ length (now room) ⌝ }
+    ensures { λ _. ⌜ now (room .exit) ≡ laidAt (now (room .entry)) at (groupBytes g) ⌝ }
+{
+    lay_head(room, at, GroupRecord::KIND, g.brp);
+    lay_three(room, at + GroupRecord::ZONE, g.zone, g.quarter, g.count);
+    lay_u32(room, at + GroupRecord::MADE, g.made);
+}
+
+pub fn lay_unit(room: &mut [u8], at: usize, u: UnitRecord)
+    requires { ⌜ at + 26 ≤ length (now room) ⌝ }
+    ensures { λ _. ⌜ now (room .exit) ≡ laidAt (now (room .entry)) at (unitBytes u) ⌝ }
+{
+    let n = u.n;
+    let pc = u.pc;
+    lay_head(room, at, UnitRecord::KIND, u.number);
+    lay_three(
+        room,
+        at + UnitRecord::CLASS,
+        u.class,
+        u.coincide,
+        u.nominated,
+    );
+    lay_four(room, at + UnitRecord::N, n.0, pc.0, u.step_down, u.step_up);
+    lay_u32(room, at + UnitRecord::MADE, u.made);
+}
+
+pub fn lay_end(room: &mut [u8], at: usize, e: EndRecord)
+    requires { ⌜ at + 5 ≤ length (now room) ⌝ }
+    ensures { λ _. ⌜ now (room .exit) ≡ laidAt (now (room .entry)) at (endBytes e) ⌝ }
+{
+    lay_u8(room, at, EndRecord::KIND);
+    lay_u32(room, at + EndRecord::GROUPS, e.groups);
+}
+
+pub fn lay_group_result(room: &mut [u8], at: usize, g: GroupResult)
+    requires { ⌜ at + 27 ≤ length (now room) ⌝ }
+    ensures { λ _. ⌜ now (room .exit) ≡ laidAt (now (room .entry)) at (groupResultBytes g) ⌝ }
+{
+    let p = g.p;
+    let s1 = g.s1;
+    let s2 = g.s2;
+    let s3 = g.s3;
+    let balance = g.balance;
+    lay_head(room, at, GroupResult::KIND, g.brp);
+    lay_three(room, at + GroupResult::ZONE, g.zone, g.quarter, g.verdict);
+    lay_u8(room, at + GroupResult::COUNT, g.count);
+    lay_four(room, at + GroupResult::P, p.0, s1.0, s2.0, s3.0);
+    lay_i32(room, at + GroupResult::BALANCE, balance.0);
+}
+
+pub fn lay_unit_result(room: &mut [u8], at: usize, u: UnitResult)
+    requires { ⌜ at + 20 ≤ length (now room) ⌝ }
+    ensures { λ _. ⌜ now (room .exit) ≡ laidAt (now (room .entry)) at (unitResultBytes u) ⌝ }
+{
+    let n0 = u.n0;
+    let n1 = u.n1;
+    let n2 = u.n2;
+    let n3 = u.n3;
+    lay_head(room, at, UnitResult::KIND, u.number);
+    lay_u8(room, at + UnitResult::REASON, u.reason);
+    lay_four(room, at + UnitResult::N0, n0.0, n1.0, n2.0, n3.0);
+}

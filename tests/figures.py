@@ -1,0 +1,177 @@
+#!/usr/bin/env python3
+"""Works out from document 01, without the library, the lines that the program `figures` must write.
+
+usage: tests/figures.py            the lines, for crates/figures/stdout
+       tests/figures.py --check    compares that file with them
+
+What "Small figures" tells of a figure is asserted of its line. Each case of "Readings to rule out" is
+also worked out under the wrong reading, and must come out otherwise.
+"""
+
+import pathlib
+import sys
+from fractions import Fraction
+
+STDOUT = pathlib.Path(__file__).resolve().parent.parent / "crates" / "figures" / "stdout"
+LIMIT = 1_000_000
+
+
+def unit(n0, pc=0, low=-LIMIT, high=LIMIT, cls=0, implicit=False):
+    return {"n0": n0, "pc": pc, "low": low, "high": high, "cls": cls, "implicit": implicit}
+
+
+def wide(p, *n0s):
+    """Nominated units of class 0 with wide margins; the first one's PC is P."""
+    return [unit(n0, 0 if i else p) for i, n0 in enumerate(n0s)]
+
+
+# ---- The steps, and the readings to rule out
+
+
+def step1(u, wrong):
+    n0 = u["n0"]
+    if wrong == "zero clamped" and n0 == 0 or wrong == "both sides clamped" and n0 != 0:
+        return max(u["low"], min(u["high"], n0))
+    if n0 > 0 and n0 > u["high"]:
+        return u["high"]
+    if n0 < 0 and n0 < u["low"]:
+        return u["low"]
+    return n0
+
+
+def step3(u, n2):
+    if 0 < n2 < u["low"]:
+        return u["low"]
+    if 0 > n2 > u["high"]:
+        return u["high"]
+    return n2
+
+
+def shares(sizes, bearing, cut, wrong):
+    """What each unit loses of a cut that is shared by size among the bearing ones."""
+    total = sum(sizes) if wrong == "directions together" else sum(s for s, b in zip(sizes, bearing) if b)
+    exact = [Fraction(cut * s, total) if b and total else Fraction(0) for s, b in zip(sizes, bearing)]
+    if wrong == "rounded alone":
+        return [int(e + Fraction(1, 2)) for e in exact]
+    lost = [int(e) for e in exact]
+    by_remainder = sorted(range(len(exact)), key=lambda i: (lost[i] - exact[i], i))
+    for i in by_remainder[: min(cut, total) - sum(lost)]:
+        lost[i] += 1
+    return lost
+
+
+def step2(units, n1, excess, wrong):
+    sign = 1 if excess > 0 else -1
+    runs = [n * sign > 0 for n in n1]
+    sizes = [abs(u["n0"] if wrong == "sizes before step 1" else n) for u, n in zip(units, n1)]
+    left, n2 = abs(excess), list(n1)
+    for classes in [[0, 1]] if wrong == "classes together" else [[0], [1]]:
+        bearing = [r and u["cls"] in classes for r, u in zip(runs, units)]
+        cut = min(left, sum(abs(n) for n, b in zip(n1, bearing) if b))
+        left -= cut
+        n2 = [n - sign * lost for n, lost in zip(n2, shares(sizes, bearing, cut, wrong))]
+    return n2
+
+
+def reason(u, n1, n2, n3):
+    return (1 * u["implicit"] + 2 * (n1 != u["n0"]) + 4 * (n2 != n1) + 8 * (n3 != n2)
+            + 16 * (n3 == 0 and not u["low"] <= 0 <= u["high"]))
+
+
+def judge(units, wrong=None):
+    for place, u in enumerate(units):
+        if any(abs(u[field]) > LIMIT for field in ("n0", "pc", "low", "high")):
+            return {"refused": [8], "at": [place]}
+    p = sum(u["pc"] for u in units)
+    low, high = min(0, -p), max(0, -p)
+    n1 = [step1(u, wrong) for u in units]
+    s1 = sum(n1)
+    excess = max(0, s1 - high) + min(0, s1 - low)
+    n2 = step2(units, n1, excess, wrong)
+    n3 = [step3(u, n) for u, n in zip(units, n2)]
+    s3 = sum(n3)
+    verdict = (excess > 0) + 2 * (excess < 0) + 4 * (not low <= s3 <= high)
+    balance = abs(p) - abs(s3) if wrong == "absolute values" else -p - s3
+    return {"n0": [u["n0"] for u in units], "n1": n1, "n2": n2, "n3": n3,
+            "reasons": [reason(*us) for us in zip(units, n1, n2, n3)],
+            "verdict": [verdict], "P": [p], "S1": [s1], "S2": [sum(n2)], "S3": [s3], "balance": [balance]}
+
+
+# ---- The figures: name, units, and what the document tells of them
+
+TURNED = {"low": -80, "high": -50}
+DAY_LIST = [unit(5000, -4000, 0, 4500), unit(3000, -2000, 2400, 6000), unit(9000, -7999, 7000, 9500, 1)]
+SMALL = [
+    ("5, 5; P -9", wide(-9, 5, 5), {"n3": [4, 5]}),
+    ("1, 1, 1; P -2", wide(-2, 1, 1, 1), {"n3": [0, 1, 1]}),
+    ("3, -5; P 0", wide(0, 3, -5), {"n3": [3, -3]}),
+    ("4, -9; P -10", wide(-10, 4, -9), {"n3": [4, -4], "balance": [10]}),
+    ("6 class 0, 10 class 1; P -7", [unit(6, -7), unit(10, cls=1)], {"n3": [0, 7]}),
+    ("10, M- -80, M+ -50; P 40", [unit(10, 40, **TURNED)],
+     {"n1": [-50], "n2": [-40], "n3": [-50], "balance": [10], "verdict": [6], "reasons": [14]}),
+    ("10, M- -80, M+ -50; P 0", [unit(10, 0, **TURNED)], {"n3": [0], "reasons": [22]}),
+    ("Not nominated, PC -500, coincide 1", [unit(500, -500, implicit=True)], {"n0": [500]}),
+    ("Not nominated, PC -500, coincide 0", [unit(0, -500)], {"n0": [0]}),
+    ("The day list's three units", DAY_LIST,
+     {"verdict": [5], "P": [-13999], "S1": [16500], "S2": [13999], "S3": [14399], "balance": [-400],
+      "reasons": [6, 12, 0], "n0": [5000, 3000, 9000], "n1": [4500, 3000, 9000],
+      "n2": [2999, 2000, 9000], "n3": [2999, 2400, 9000]}),
+    ("64 units of 1,000,000; P 0", wide(0, *[LIMIT] * 64), {"n3": [0] * 64}),
+    ("n0 1,000,000", [unit(LIMIT)], {"n0": [LIMIT]}),
+    ("n0 -1,000,000", [unit(-LIMIT)], {"n0": [-LIMIT]}),
+    ("PC 1,000,000", [unit(0, LIMIT)], {"P": [LIMIT]}),
+    ("PC -1,000,000", [unit(0, -LIMIT)], {"P": [-LIMIT]}),
+    ("M- 1,000,000", [unit(0, low=LIMIT)], {"n0": [0]}),
+    ("M+ -1,000,000", [unit(0, high=-LIMIT)], {"n0": [0]}),
+    ("n0 1,000,001", [unit(LIMIT + 1)], {"refused": [8]}),
+    ("n0 -1,000,001", [unit(-LIMIT - 1)], {"refused": [8]}),
+    ("PC 1,000,001", [unit(0, LIMIT + 1)], {"refused": [8]}),
+    ("PC -1,000,001", [unit(0, -LIMIT - 1)], {"refused": [8]}),
+    ("M- 1,000,001", [unit(0, low=LIMIT + 1)], {"refused": [8]}),
+    ("M- -1,000,001", [unit(0, low=-LIMIT - 1)], {"refused": [8]}),
+    ("M+ 1,000,001", [unit(0, high=LIMIT + 1)], {"refused": [8]}),
+    ("M+ -1,000,001", [unit(0, high=-LIMIT - 1)], {"refused": [8]}),
+]
+READINGS = [
+    ("4 class 0, 12 class 1; P -8", [unit(4, -8), unit(12, cls=1)], "classes together"),
+    ("20, 10, -15; P 0", wide(0, 20, 10, -15), "directions together"),
+    ("-20, -10, 15; P 0", wide(0, -20, -10, 15), "directions together"),
+    ("10 with M+ 2, 2; P -2", [unit(10, -2, high=2), unit(2)], "sizes before step 1"),
+    ("7, 7, 7, 7; P -22", wide(-22, 7, 7, 7, 7), "rounded alone"),
+    ("-2, -2, -2; P 5", wide(5, -2, -2, -2), "rounded alone"),
+    ("0, M- 5, M+ 9; P -9", [unit(0, -9, 5, 9)], "zero clamped"),
+    ("0, M- -9, M+ -5; P 9", [unit(0, 9, -9, -5)], "zero clamped"),
+    ("3, M- 5, M+ 9; P -9", [unit(3, -9, 5, 9)], "both sides clamped"),
+    ("-3, M- -9, M+ -5; P 9", [unit(-3, 9, -9, -5)], "both sides clamped"),
+    ("3 with M- 5, 5; P -6", [unit(3, -6, low=5), unit(5)], "both sides clamped"),
+    ("-30; P 40", wide(40, -30), "absolute values"),
+    ("-3 with M+ -5, 2; P -10", [unit(-3, -10, high=-5), unit(2)], "absolute values"),
+]
+
+
+def line(name, out):
+    return name + ":" + "".join(f" {word} {' '.join(map(str, values))}" for word, values in out.items())
+
+
+def lines():
+    for name, units, told in SMALL:
+        out = judge(units)
+        for word, values in told.items():
+            assert out.get(word) == values, (name, word, out)
+        yield line(name, out)
+    for name, units, wrong in READINGS:
+        out = judge(units)
+        assert judge(units, wrong) != out, (name, wrong, out)
+        yield line(name, out)
+
+
+def main(words):
+    text = "".join(each + "\n" for each in lines())
+    if words == ["--check"]:
+        return 0 if STDOUT.read_text() == text else f"{STDOUT} is not what document 01 gives"
+    sys.stdout.write(text)
+    return 0
+
+
+if __name__ == "__main__":
+    sys.exit(main(sys.argv[1:]))
