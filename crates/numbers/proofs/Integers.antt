@@ -155,14 +155,6 @@ sel-ind : (c : Bool) (x y : ℤ) (P : ℤ → Type 0) → (c ≡ true → P x) �
 sel-ind true x y P f g = f refl
 sel-ind false x y P f g = g refl
 
-pub read-up : (w : Width) (x : ℕ) → x < 2 ^ hbits w → (pp (toZ w x) ≡ x) × (nn (toZ w x) ≡ 0)
-read-up w x h =
-    sel-ind (ltb x (2 ^ hbits w)) (pos x) (negsuc (2 ^ bits w - suc x)) (λ z. (pp z ≡ x) × (nn z ≡ 0))
-    (λ e. (refl, refl)) (λ e. absurd (no (2 ^ hbits w) (ltb-false x (2 ^ hbits w) e) h))
-  where
-    no : (m : ℕ) → m ≤ x → x < m → ⊥
-    no m k l = omega arith
-
 pub read-down : (w : Width) (x : ℕ) → 2 ^ hbits w ≤ x → x < 2 ^ bits w → (pp (toZ w x) ≡ 0) × (nn (toZ w x) + x ≡ 2 ^ bits w)
 read-down w x h l =
     sel-ind (ltb x (2 ^ hbits w)) (pos x) (negsuc (2 ^ bits w - suc x)) (λ z. (pp z ≡ 0) × (nn z + x ≡ 2 ^ bits w))
@@ -200,9 +192,6 @@ zero-fits w128 = sfits-lit tt
 module _ {w : Width} {x y : ℤ} {t : Bool} (f : SFits w x) (g : SFits w y) where
   pub plain-lt : ltZ (toZ w (ofZ w x)) (toZ w (ofZ w y)) ≡ t → ltZ x y ≡ t
   plain-lt e = rw (toZ-ofZ w x f, toZ-ofZ w y g) at e
-
-  pub plain-le : leZ (toZ w (ofZ w x)) (toZ w (ofZ w y)) ≡ t → leZ x y ≡ t
-  plain-le e = rw (toZ-ofZ w x f, toZ-ofZ w y g) at e
 
 -- ---- sums
 -- z is `p - n`, and no further from zero than p and n are
