@@ -93,7 +93,7 @@ fn summed(p: Position, b: Band, s1: i32, e: i32, s2: i32, s3: i32) -> Sums
 }
 
 // The three steps of a group that is not refused.
-fn judged(
+pub fn judged(
     n0: &[i32],
     pc: &[i32],
     step_down: &[i32],

@@ -1,0 +1,91 @@
+-- What holds of a block that passed its checks: its values are the layouts', and each is in its range.
+use Prim.Native.Nat.{ℕ, _+_, _*_, _≤_, _<_}
+use mathlib.Core.Path.{_≡_, refl, sym, ap, _∙_}
+use mathlib.Core.Bool.{Bool, true}
+use mathlib.Core.List.{List}
+use native.Mathlib.Omega.{arith}
+use native.Mathlib.Decide.{decLt}
+use borrow.Author.Tests.{leb-true}
+use lib.Dec.{leb}
+use lib.ListN.{length, getD}
+use Rattle.numbers.proofs.Choices.{and-both}
+use Rattle.numbers.proofs.Columns.{column-at, column-past}
+use Rattle.terms.specs.Reply.{is}
+use Rattle.terms.proofs.Replies.{need-is, next-is}
+use Rattle.records.specs.declared.day.DayRecord.{DayRecord}
+use Rattle.records.specs.declared.key.Last.{Last}
+use Rattle.records.specs.declared.group.GroupRecord.{GroupRecord}
+use Rattle.records.specs.Layouts.{groupAt}
+use Rattle.records.specs.Reading.{follows, groupFieldsOf, unitsOf, unitIn}
+use Rattle.records.specs.Decoding.{classesIn}
+use Rattle.records.proofs.Accepted.{unit-in, block-end, holds, n0-all, pc-all, step-down-all, step-up-all}
+use Rattle.day.specs.declared.value.Day.{Day}
+use Rattle.day.specs.declared.check.Block.{Block}
+use Rattle.day.specs.Checking.{blockOf, blockFieldsOf}
+use Rattle.day.specs.Blocks.{blockKey, blockCount, Passed}
+
+-- a group record whose fields passed
+record GroupPassed (s : List ℕ) (last : Last) (g : GroupRecord) : Type 0 where
+  pub value : g ≡ groupAt s 0
+  pub most : blockCount s ≤ 64
+  pub after : follows last (blockKey s) ≡ true
+
+group-passed : (s : List ℕ) (d : DayRecord) (last : Last) {g : GroupRecord} → groupFieldsOf s d last ≡ is g → GroupPassed s last g
+unfolding groupFieldsOf
+group-passed s d last {g} e =
+    let q = need-is _ _ _ _ e in
+    let n = need-is _ _ _ _ (q .1) in
+    let k = need-is _ _ _ _ (n .1) in
+    let m = need-is _ _ _ _ (k .1) in
+    record {
+      value = cc (m .1);
+      most = leb-true _ 64 (and-both (leb 1 (blockCount s)) (leb (blockCount s) 64) (n .0) .1);
+      after = k .0;
+    }
+
+pub record Read (day : Day) (s : List ℕ) (block : Block) : Type 0 where
+  pub value : block ≡ blockOf (groupAt s 0) (10 + 26 * blockCount s)
+  pub after : follows (day .last) (blockKey s) ≡ true
+  pub passed : 10 ≤ length s → Passed s (blockCount s)
+
+module _ (s : List ℕ) (run limit count : ℕ) {end : ℕ} (few : count ≤ 64) (e : unitsOf s 10 0 run limit count ≡ is end) where
+  class-known : (i : ℕ) → getD (classesIn s count) i 0 ≤ 1
+  class-known i = go (decLt i count)
+    where
+      class : ℕ → ℕ
+      class j = unitIn s j .class
+
+      go : Dec (i < count) → getD (classesIn s count) i 0 ≤ 1
+      go (yes l) = rw (column-at class count i 0 l) (unit-in s run limit count e i l .class)
+      go (no l) = rw (column-past class count i 0 (omega arith)) (omega arith)
+
+  units-passed : 10 ≤ length s → Passed s count
+  units-passed h =
+      record {
+        few = few;
+        holds = holds s run limit count e h;
+        known = class-known;
+        n0-small = n0-all s run limit count e;
+        pc-small = pc-all s run limit count e;
+        down-small = step-down-all s run limit count e;
+        up-small = step-up-all s run limit count e;
+      }
+
+read-by : (day : Day) (s : List ℕ) {block : Block} (g : GroupRecord) (end : ℕ) → GroupPassed s (day .last) g
+    → unitsOf s 10 0 (day .«record» .run) (day .«record» .«margin_limit») (g .count) ≡ is end → block ≡ blockOf g end → Read day s block
+read-by day s g end p u v =
+    let run = day .«record» .run in
+    let limit = day .«record» .«margin_limit» in
+    let k : unitsOf s 10 0 run limit (blockCount s) ≡ is end = rw (p .value) at u in
+    record {
+      value = v ∙ rw (p .value, block-end s run limit (blockCount s) k);
+      after = p .after;
+      passed = units-passed s run limit (blockCount s) (p .most) k;
+    }
+
+pub read : (day : Day) (s : List ℕ) {block : Block} → blockFieldsOf day s ≡ is block → Read day s block
+unfolding blockFieldsOf
+read day s e =
+    let a = next-is _ _ e in
+    let b = next-is _ _ (a .1 .1) in
+    read-by day s (a .0) (b .0) (group-passed s (day .«record») (day .last) (a .1 .0)) (b .1 .0) (cc (b .1 .1))

@@ -1,0 +1,5 @@
+-- A day, and what is offered to it.
+pub mod Days
+pub mod Checking
+pub mod Blocks
+pub mod Offers

@@ -1,0 +1,5 @@
+// A day: its value, a block checked for it, and a record or block offered to it.
+pub mod check;
+pub mod offer;
+mod result;
+pub mod value;

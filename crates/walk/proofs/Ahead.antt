@@ -1,0 +1,53 @@
+-- A walk so many steps ahead: a loop's turn is one of them, and what is replied there is what the walk replies after so many records.
+use Prim.Native.Nat.{ℕ, zero, suc, _+_, _-_, _≤_, _<_}
+use mathlib.Core.Path.{_≡_, refl, sym, ap, _∙_}
+use mathlib.Core.List.{List}
+use native.Mathlib.Omega.{arith}
+use denote.Ref.{RefT, now}
+use Rattle.terms.specs.Reply.{Reply, is, refused}
+use Rattle.walk.specs.declared.stand.Stand.{Stand}
+use Rattle.walk.specs.declared.step.Extent.{Extent}
+use Rattle.walk.specs.declared.table.State.the-variants.{Fresh}
+use Rattle.walk.specs.declared.walker.Walker.{Walker}
+use Rattle.walk.specs.Walk.{Found, extent, done, follow, stepOf, walkFrom}
+use Rattle.walk.specs.Stands.{standAfter, standAhead, openedOn, aheadOf}
+
+-- what is replied where a walk stands
+abbrev there : List ℕ → Stand → Reply Found
+there s stand = stepOf s (stand .state) (stand .place)
+
+module _ (s : List ℕ) (steps i : ℕ) (stand : Stand) where
+  pub one-ahead : i < steps → standAhead s stand (steps - i) ≡ standAhead s (standAfter stand (there s stand)) (steps - (i + 1))
+  unfolding standAhead
+  one-ahead h =
+      let left : steps - i ≡ suc (steps - (i + 1)) = omega arith in
+      rw left
+
+  pub none-ahead : steps ≤ i → standAhead s stand (steps - i) ≡ stand
+  unfolding standAhead
+  none-ahead h =
+      let left : steps - i ≡ 0 = omega arith in
+      rw left
+
+-- a walk that no reply moves stays where it stands
+stays : (s : List ℕ) (stand : Stand) (steps : ℕ) → standAfter stand (there s stand) ≡ stand → standAhead s stand steps ≡ stand
+unfolding standAhead
+stays s stand zero e = refl
+stays s stand (suc more) e = rw e (stays s stand more e)
+
+pub reply-ahead : (s : List ℕ) (stand : Stand) (steps : ℕ) → walkFrom s (stand .state) (stand .place) steps .reply ≡ there s (standAhead s stand steps)
+unfolding walkFrom standAhead
+reply-ahead s stand zero = refl
+reply-ahead s stand (suc more) = go (there s stand) refl (λ e. reply-ahead s (record { state = e .after; place = e .end }) more)
+  where
+    go : (r : Reply Found) → there s stand ≡ r
+        → ((e : Extent) → walkFrom s (e .after) (e .end) more .reply ≡ there s (standAhead s (record { state = e .after; place = e .end }) more))
+        → follow r (λ e. walkFrom s (e .after) (e .end) more) .reply ≡ there s (standAhead s (standAfter stand r) more)
+    go (is (extent e)) q later = later e
+    go (is done) q later = sym q ∙ ap (there s) (sym (stays s stand more (ap (standAfter stand) q)))
+    go (refused n p) q later = sym q ∙ ap (there s) (sym (stays s stand more (ap (standAfter stand) q)))
+
+-- what a walker that was opened and went so many steps ahead replies
+pub reply-at : (s : RefT (List ℕ)) (steps : ℕ) (w v : Walker) → w ≡ openedOn s → v ≡ aheadOf w steps
+    → stepOf (now (v .bytes)) (v .state) (v .place) ≡ walkFrom (now s) Fresh 0 steps .reply
+reply-at s steps w v o e = rw (e, o) (sym (reply-ahead (now s) (record { state = Fresh; place = 0 }) steps))

@@ -1,0 +1,71 @@
+-- A step that gave an extent reads no byte past it: where the bytes agree up to its end, it gives the same.
+use Prim.Native.Nat.{ℕ, zero, suc, _+_, _≤_, _<_}
+use mathlib.Core.Path.{_≡_, refl, sym, ap, _∙_}
+use mathlib.Core.List.{List}
+use native.Mathlib.Omega.{arith}
+use borrow.Author.Tests.{lt-ltb, le-leb, eq-eqb}
+use lib.ListN.{length, take, length-take}
+use lib.Seq.{getD-take}
+use Rattle.numbers.specs.Bytes.{byteAt}
+use Rattle.terms.specs.Reply.{is, need, next}
+use Rattle.terms.proofs.Replies.{next-is}
+use Rattle.records.specs.Layouts.{groupAt}
+use Rattle.records.specs.Reading.{headOf}
+use Rattle.records.proofs.Heads.{headed}
+use Rattle.walk.specs.declared.table.State.{State}
+use Rattle.walk.specs.declared.table.State.the-variants.{Fresh, Open}
+use Rattle.walk.specs.declared.step.Extent.{Extent}
+use Rattle.walk.specs.Walk.{extent, headsOf, blockOf, wholeOf, stepOf}
+use Rattle.walk.proofs.Extents.{lies}
+use Rattle.walk.proofs.Gives.{Given, aDay, aBlock, anEnd, given, step-of}
+use Rattle.walk.proofs.UnitHeads.{head-end, heads-lie, block-is, block-run}
+
+record Agree (s t : List ℕ) (n : ℕ) : Type 0 where
+  pub long : n ≤ length t
+  pub same : (i : ℕ) → i < n → byteAt t i ≡ byteAt s i
+
+agree : (s t : List ℕ) (n : ℕ) → n ≤ length s → take n s ≡ take n t → Agree s t n
+agree s t n h e =
+    record { long = omega (arith, h, length-take n s, length-take n t, ap length e); same = λ i l. sym (getD-take n t i 0 l) ∙ ap (λ (x : List ℕ). byteAt x i) (sym e) ∙ getD-take n s i 0 l }
+
+module _ (s t : List ℕ) (n : ℕ) (a : Agree s t n) where
+  head-local : (at kind len : ℕ) {end : ℕ} → 0 < len → headOf s at kind len ≡ is end → end ≤ n → headOf t at kind len ≡ is end
+  unfolding headOf need
+  head-local at kind len {end} p e h =
+      let m = headed s at kind len e in
+      let q = head-end s at kind len e in
+      let b = a .same at (omega arith) ∙ m .first in
+      simp (b, eq-eqb kind kind refl, lt-ltb at (length t) (omega (arith, a .long)), q, le-leb end (length t) (omega (arith, a .long)))
+
+  heads-local : (at count : ℕ) {end : ℕ} → at ≤ length s → headsOf s at count ≡ is end → end ≤ n → headsOf t at count ≡ is end
+  unfolding headsOf next
+  heads-local at zero k e h = e
+  heads-local at (suc count) {end} k e h =
+      let x = next-is (headOf s at 3 26) (λ end. headsOf s end count) e in
+      let m = headed s at 3 26 (x .1 .0) in
+      let q = head-end s at 3 26 (x .1 .0) in
+      let r = heads-lie s (x .0) count (omega (arith, m .long)) (x .1 .1) in
+      rw (head-local at 3 26 (omega arith) (x .1 .0) (omega (arith, r .run))) (heads-local (x .0) count (omega (arith, m .long)) (x .1 .1) h)
+
+  block-local : (at : ℕ) {end : ℕ} → at + 10 ≤ length s → blockOf s at ≡ is end → end ≤ n → blockOf t at ≡ is end
+  unfolding blockOf groupAt need
+  block-local at {end} k e h =
+      let r = block-run s at k e in
+      let same = a .same (at + 5) (omega (arith, r .run)) in
+      let x = block-is s at e in
+      rw (same, x .0) (heads-local (at + 10) (byteAt s (at + 5)) k (x .1) h)
+
+pub local : (s t : List ℕ) (state : State) (place : ℕ) (e : Extent) → stepOf s state place ≡ is (extent e) → take (e .end) s ≡ take (e .end) t
+    → stepOf t state place ≡ is (extent e)
+unfolding wholeOf
+local s t state place e q same =
+    let l = lies s state place e q in
+    go (given s place state e q) (agree s t (e .end) (l .within) same)
+  where
+    go : {state : State} {e : Extent} → Given s place state e → Agree s t (e .end) → stepOf t state place ≡ is (extent e)
+    go (aDay h) a = step-of t Fresh place 1 (place + 12) (place + 12) refl (head-local s t _ a place 1 12 (omega arith) h (omega arith)) refl
+    go (aBlock end h b) a =
+        let long = headed s place 2 10 h .long in
+        let r = block-run s place long b in
+        step-of t Open place 2 (place + 10) end refl (head-local s t _ a place 2 10 (omega arith) h (omega (arith, r .run))) (block-local s t _ a place long b (omega arith))
+    go (anEnd end h) a = step-of t Open place 15 end end refl (head-local s t _ a place 15 5 (omega arith) h (omega arith)) refl

@@ -1,0 +1,68 @@
+-- The loop's invariant: where the walk stands in the end is where it stands so many steps on from here.
+use Prim.Native.Nat.{ℕ, _-_, _≤_}
+use mathlib.Core.Path.{_≡_, sym, _∙_}
+use mathlib.Core.List.{List}
+use native.Mathlib.Omega.{arith}
+use borrow.Author.Needs.{needs}
+use denote.Ref.{now}
+use Rattle.walk.specs.declared.stand.Stand.{Stand}
+use Rattle.walk.specs.Stands.{standAhead}
+use Rattle.walk.proofs.Ahead.{one-ahead, none-ahead}
+use Rattle.walk.proofs.stand.stand_ahead.Statement.{statement}
+use Rattle.walk.proofs.stand.stand_ahead.Tie as tie
+
+record Going (s : List ℕ) (steps : ℕ) (first stand : Stand) (i : ℕ) : Type 0 where
+  pub within : i ≤ steps
+  pub so : standAhead s first steps ≡ standAhead s stand (steps - i)
+
+abbrev Inv-loop : tie.InvT-loop
+Inv-loop s place steps stand₀ i₀ stand i = Going s steps stand₀ stand i
+
+abbrev μ-loop : tie.MeasureT-loop
+μ-loop s place steps stand₀ i₀ stand i = steps - i
+
+loop-holds : tie.Need-loop-holds Inv-loop μ-loop
+loop-holds c =
+    let x = c .before .args in
+    let e : x .steps - 0 ≡ x .steps = omega arith in
+    record { within = omega arith; so = rw e }
+
+next-requires : tie.Need-next-requires Inv-loop μ-loop
+next-requires c κs = search needs
+
+stand-after-requires : tie.Need-stand-after-requires Inv-loop μ-loop
+stand-after-requires c κs = search needs
+
+add-i : tie.Need-add-i Inv-loop μ-loop
+add-i c = search needs
+
+loop-less : tie.Need-loop-less Inv-loop μ-loop
+loop-less c = search needs
+
+loop-again : tie.Need-loop-again Inv-loop μ-loop
+loop-again c =
+    let v = c .before .before .before .loop in
+    let x = c .before .before .before .before .before .args in
+    let t = c .before .before .loop-test .taken in
+    let one = one-ahead (now (x .s)) (x .steps) (v .i) (v .stand) t in
+    record { within = omega arith; so = v .inv .so ∙ rw (c .stand-after .ensures, c .before .next .ensures) one }
+
+returns : tie.Need-returns Inv-loop μ-loop
+returns c =
+    let v = c .before .loop in
+    let x = c .before .before .before .args in
+    sym (v .inv .so ∙ none-ahead (now (x .s)) (x .steps) (v .i) (v .stand) (c .loop-test .left))
+
+pub stand-ahead-spec : {M : Type 1} → statement M
+stand-ahead-spec =
+    tie.close
+    (tie.spec
+    Inv-loop
+    μ-loop
+    loop-holds
+    next-requires
+    stand-after-requires
+    add-i
+    loop-less
+    loop-again
+    returns)
