@@ -37,7 +37,7 @@ module _ (day : Day) (s : List ℕ) where
     unfolding headFor
     head-is = need-is _ _ _ _ (need-is _ _ _ _ e .1) .1
 
-    head-came : Came s 0 (day .state) head
+    pub head-came : Came s 0 (day .state) head
     head-came = came s 0 (day .state) head head-is
 
     -- each kind with the state that it may come in

@@ -4,3 +4,10 @@ pub mod Passing
 pub mod Read
 pub mod Taking
 pub mod ByKind
+pub mod Outcomes
+pub mod ReadBack
+pub mod Sayable
+pub mod Written
+pub mod Unique
+pub mod Parties
+pub mod Demands

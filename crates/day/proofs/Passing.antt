@@ -19,19 +19,24 @@ use Rattle.writers.specs.Results.{results, resultBytes, Laying}
 use Rattle.day.specs.Blocks.{groupIn, reasonColumn, groupResult, resultIn, Passed, Told, StepRoom, Stepped, Writable}
 
 module _ (s : List ℕ) (count : ℕ) where
+  -- the columns of a block are of one length
+  pub level-in : Level (groupIn s count)
+  level-in =
+      let n : length (groupIn s count .n0) ≡ count = column-length _ count in
+      record {
+        positions = rw (n, column-length _ count);
+        downs = rw (n, column-length _ count);
+        ups = rw (n, column-length _ count);
+        classes = rw (n, column-length _ count);
+      }
+
   -- the group of a block that passed
   pub judged-in : {x1 x2 x3 : List ℤ} → Passed s count → StepRoom count x1 x2 x3 → Judged (groupIn s count) x1 x2 x3
   judged-in p r =
       let n : length (groupIn s count .n0) ≡ count = column-length _ count in
       record {
         few = rw n (p .few);
-        level =
-            record {
-              positions = rw (n, column-length _ count);
-              downs = rw (n, column-length _ count);
-              ups = rw (n, column-length _ count);
-              classes = rw (n, column-length _ count);
-            };
+        level = level-in;
         known = p .known;
         firsts = rw n (r .firsts);
         seconds = rw n (r .seconds);

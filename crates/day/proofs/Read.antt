@@ -7,9 +7,13 @@ use native.Mathlib.Omega.{arith}
 use native.Mathlib.Decide.{decLt}
 use borrow.Author.Tests.{leb-true}
 use lib.Dec.{leb}
+use lib.IntN.{ℤ, pos}
 use lib.ListN.{length, getD}
+use Rattle.numbers.specs.Column.{column, at}
+use Rattle.numbers.proofs.Integers.{zarith}
+use Rattle.group.proofs.Accepting.{Sound, Accepted}
 use Rattle.numbers.proofs.Choices.{and-both}
-use Rattle.numbers.proofs.Columns.{column-at, column-past}
+use Rattle.numbers.proofs.Columns.{column-length, column-at, column-past}
 use Rattle.terms.specs.Reply.{is}
 use Rattle.terms.proofs.Replies.{need-is, next-is}
 use Rattle.records.specs.declared.day.DayRecord.{DayRecord}
@@ -17,12 +21,13 @@ use Rattle.records.specs.declared.key.Last.{Last}
 use Rattle.records.specs.declared.group.GroupRecord.{GroupRecord}
 use Rattle.records.specs.Layouts.{groupAt}
 use Rattle.records.specs.Reading.{follows, groupFieldsOf, unitsOf, unitIn}
-use Rattle.records.specs.Decoding.{classesIn}
+use Rattle.records.specs.Decoding.{unitN0, classesIn}
 use Rattle.records.proofs.Accepted.{unit-in, block-end, holds, n0-all, pc-all, step-down-all, step-up-all}
 use Rattle.day.specs.declared.value.Day.{Day}
 use Rattle.day.specs.declared.check.Block.{Block}
 use Rattle.day.specs.Checking.{blockOf, blockFieldsOf}
-use Rattle.day.specs.Blocks.{blockKey, blockCount, Passed}
+use Rattle.day.specs.Blocks.{groupIn, blockKey, blockCount, blockGroup, Passed}
+use Rattle.day.proofs.Passing.{level-in}
 
 -- a group record whose fields passed
 record GroupPassed (s : List ℕ) (last : Last) (g : GroupRecord) : Type 0 where
@@ -47,6 +52,7 @@ pub record Read (day : Day) (s : List ℕ) (block : Block) : Type 0 where
   pub value : block ≡ blockOf (groupAt s 0) (10 + 26 * blockCount s)
   pub after : follows (day .last) (blockKey s) ≡ true
   pub passed : 10 ≤ length s → Passed s (blockCount s)
+  pub accepted : Accepted (blockGroup s)
 
 module _ (s : List ℕ) (run limit count : ℕ) {end : ℕ} (few : count ≤ 64) (e : unitsOf s 10 0 run limit count ≡ is end) where
   class-known : (i : ℕ) → getD (classesIn s count) i 0 ≤ 1
@@ -71,6 +77,38 @@ module _ (s : List ℕ) (run limit count : ℕ) {end : ℕ} (few : count ≤ 64)
         up-small = step-up-all s run limit count e;
       }
 
+  -- as a group, each unit is sound, and past the last there is nothing to refuse
+  units-accepted : Accepted (groupIn s count)
+  units-accepted =
+      let n : length (groupIn s count .n0) ≡ count = column-length _ count in
+      record { few = rw n few; level = level-in s count; sound = λ i. go i (decLt i count) }
+    where
+      class : ℕ → ℕ
+      class j = unitIn s j .class
+
+      n0 : ℕ → ℤ
+      n0 j = unitN0 (unitIn s j)
+
+      pc : ℕ → ℤ
+      pc j = unitIn s j .pc .0
+
+      down : ℕ → ℤ
+      down j = unitIn s j .«step_down»
+
+      up : ℕ → ℤ
+      up j = unitIn s j .«step_up»
+
+      go : (i : ℕ) → Dec (i < count)
+          → Sound (getD (column count class) i 0) (at (column count n0) i) (at (column count pc) i) (at (column count down) i) (at (column count up) i)
+      go i (yes l) =
+          let u = unit-in s run limit count e i l in
+          rw (column-at class count i 0 l, column-at n0 count i (pos 0) l, column-at pc count i (pos 0) l, column-at down count i (pos 0) l, column-at up count i (pos 0) l)
+          (record { known = u .class; n0-small = u .n0; pc-small = u .pc; down-small = u .step-down; up-small = u .step-up; ordered = u .ordered })
+      go i (no l) =
+          let h : count ≤ i = omega arith in
+          rw (column-past class count i 0 h, column-past n0 count i (pos 0) h, column-past pc count i (pos 0) h, column-past down count i (pos 0) h, column-past up count i (pos 0) h)
+          (omega zarith)
+
 read-by : (day : Day) (s : List ℕ) {block : Block} (g : GroupRecord) (end : ℕ) → GroupPassed s (day .last) g
     → unitsOf s 10 0 (day .«record» .run) (day .«record» .«margin_limit») (g .count) ≡ is end → block ≡ blockOf g end → Read day s block
 read-by day s g end p u v =
@@ -81,6 +119,7 @@ read-by day s g end p u v =
       value = v ∙ rw (p .value, block-end s run limit (blockCount s) k);
       after = p .after;
       passed = units-passed s run limit (blockCount s) (p .most) k;
+      accepted = units-accepted s run limit (blockCount s) (p .most) k;
     }
 
 pub read : (day : Day) (s : List ℕ) {block : Block} → blockFieldsOf day s ≡ is block → Read day s block

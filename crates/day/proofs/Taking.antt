@@ -4,7 +4,7 @@ use mathlib.Core.Path.{_≡_, refl, sym, ap, _∙_}
 use mathlib.Core.List.{List, []}
 use native.Mathlib.Omega.{arith}
 use lib.ListN.{length, length-append}
-use Rattle.numbers.specs.Bytes.{bytes16, bytes32, laidAt}
+use Rattle.numbers.specs.Bytes.{laidAt}
 use Rattle.numbers.proofs.Laid.{laid-front}
 use Rattle.terms.specs.Reply.{Reply, is, refused, next}
 use Rattle.terms.specs.Refusals.{refusal}
@@ -14,9 +14,9 @@ use Rattle.records.specs.declared.group_result.GroupResult.{GroupResult}
 use Rattle.records.specs.Reading.{dayFieldsOf, endFieldsOf}
 use Rattle.records.specs.Decoding.{numbersIn, implicitsIn}
 use Rattle.group.specs.Columns.{sumsOf}
-use Rattle.records.specs.Layouts.{behind, groupResultBytes}
+use Rattle.records.specs.Layouts.{groupResultBytes}
 use Rattle.writers.specs.Results.{Results, resultBytes, unitResultsBytes}
-use Rattle.writers.proofs.Lengths.{length-results}
+use Rattle.writers.proofs.Lengths.{length-group-result, length-results}
 use Rattle.day.specs.declared.value.Day.{Day}
 use Rattle.day.specs.declared.offer.Step.{Step}
 use Rattle.day.specs.declared.offer.Offered.the-variants as O
@@ -59,9 +59,11 @@ end-room day s room = unwritten (endFieldsOf s (day .groups)) (λ _. record { us
 
 -- the length of a block's result
 length-result : (g : GroupResult) (r : Results) → length (resultBytes g r) ≡ 27 + 20 * g .count
-unfolding resultBytes groupResultBytes behind bytes32 bytes16
+unfolding resultBytes
 length-result g r =
-    length-append (groupResultBytes g) (unitResultsBytes r (g .count)) ∙ ap (λ (n : ℕ). 27 + n) (length-results r (g .count))
+    let a = length-group-result g in
+    let b = length-results r (g .count) in
+    length-append (groupResultBytes g) (unitResultsBytes r (g .count)) ∙ omega arith
 
 pub result-length : (s : List ℕ) (key : Key) (count : ℕ) → length (resultIn s key count) ≡ 27 + 20 * count
 unfolding resultIn groupResult

@@ -31,10 +31,10 @@ module _ (g : Group) {first second third : List ℤ} (h : Judged g first second 
   pub n1-classed : Classed (n1 g) (g .class)
   n1-classed = classed-by g (h .few) (h .level .classes) (h .known) (h .n0-small) (h .down-small) (h .up-small)
 
-  n2-small : AllWithin 1000000 (n2 g)
+  pub n2-small : AllWithin 1000000 (n2 g)
   n2-small = step2-small (excess g) (n1 g) (g .class) n1-classed (bearable (position g) (n1 g) (g .class) n1-classed)
 
-  n2-few : length (n2 g) ≤ 64
+  pub n2-few : length (n2 g) ≤ 64
   n2-few = omega (arith, step2-length (excess g) (n1 g) (g .class), n1-length, h .few)
 
   pub n3-few : length (n3 g) ≤ 64

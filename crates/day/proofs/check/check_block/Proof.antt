@@ -1,64 +1,49 @@
+-- `check_block` meets its contract, test by test.
 use mathlib.Core.Path.{sym, ap, _∙_}
-use native.Mathlib.Omega.{arith}
 use borrow.Author.Tests.{not-true, not-false}
-use Rattle.day.proofs.Lengths.{nothing, something}
+use borrow.Author.Needs.{needs}
 use Rattle.terms.specs.Reply.{need, next}
 use Rattle.terms.specs.Refusals.{answer}
 use Rattle.records.proofs.Heads.{headed}
 use Rattle.day.specs.Checking.{checkOf}
-use borrow.Author.Needs.{needs}
-use Rattle.day.proofs.check.check_block.Statement.{statement}
+use Rattle.day.proofs.Lengths.{nothing, something}
 use Rattle.day.proofs.check.check_block.Tie as tie
-use Rattle.day.proofs.check.check_block.Reads as reads
-use Rattle.day.proofs.check.check_block.Lts as lts
-use Rattle.day.proofs.check.block_fields.Reads as block-fields-reads
-use Rattle.day.proofs.value.Day.takes_blocks.Reads as takes-blocks-reads
-use Rattle.records.proofs.head.head.Reads as head-reads
-use Rattle.terms.proofs.refusal.Answer.refusal.Reads as refusal-reads
+use Rattle.day.proofs.check.check_block.Statement.{statement}
 
--- src/check.rt:93:9
 returns : tie.Need-returns
 unfolding checkOf need next
 returns c = simp (nothing (c .if1 .taken))
 
--- src/check.rt:98:9
 takes-blocks-requires : tie.Need-takes-blocks-requires
 takes-blocks-requires c κs = search needs
 
--- src/check.rt:99:9
 returns-2 : tie.Need-returns-2
 unfolding checkOf need next
 returns-2 c =
     let q = sym (c .before .takes-blocks .ensures) ∙ not-true _ (c .if2 .taken) in
     simp (something (c .before .before .if1 .left), q)
 
--- src/check.rt:104:9
 head-requires : tie.Need-head-requires
 head-requires c κs = search needs
 
 enum-told : tie.Need-enum-told
 enum-told c = search needs
 
--- src/check.rt:106:37
 enum-told-2 : tie.Need-enum-told-2
 enum-told-2 c = search needs
 
--- src/check.rt:106:37
 refusal-requires : tie.Need-refusal-requires
 refusal-requires c κs = search needs
 
--- src/check.rt:106:9
 returns-3 : tie.Need-returns-3
 unfolding checkOf need next
 returns-3 c =
     let q = sym (c .before .before .before .before .before .takes-blocks .ensures) ∙ not-false _ (c .before .before .before .before .if2 .left) in
     simp (something (c .before .before .before .before .before .before .if1 .left), q) (rw (c .refusal .ensures, ← (c .before .before .before .head .ensures), c .before .enum-told2 .given .1))
 
--- src/check.rt:108:5
 block-fields-requires : tie.Need-block-fields-requires
 block-fields-requires c κs = headed _ 0 2 10 (sym (c .before .before .head .ensures) ∙ ap answer (c .enum-told .given .1)) .long
 
--- src/check.rt:88:1
 returns-4 : tie.Need-returns-4
 unfolding checkOf need next
 returns-4 c =

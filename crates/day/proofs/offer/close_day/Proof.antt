@@ -1,42 +1,32 @@
+-- `close_day` meets its contract: the end fields decide.
 use mathlib.Core.Path.{sym, ap, _∙_}
+use borrow.Author.Needs.{needs}
 use Rattle.terms.specs.Reply.{next}
 use Rattle.records.specs.Answers.{endReply}
 use Rattle.day.specs.Offers.{endTaken}
 use Rattle.day.proofs.Taking.{refuses, takes}
-use borrow.Author.Needs.{needs}
-use Rattle.day.proofs.offer.close_day.Statement.{statement}
 use Rattle.day.proofs.offer.close_day.Tie as tie
-use Rattle.day.proofs.offer.close_day.Reads as reads
-use Rattle.day.proofs.offer.close_day.Lts as lts
-use Rattle.day.proofs.value.Day.closed.Reads as closed-reads
-use Rattle.records.proofs.end.EndAnswer.refusal.Reads as refusal-reads
-use Rattle.records.proofs.end.end_fields.Reads as end-fields-reads
+use Rattle.day.proofs.offer.close_day.Statement.{statement}
 
--- src/offer.rt:107:9
 end-fields-requires : tie.Need-end-fields-requires
 end-fields-requires c κs = search needs
 
 enum-told : tie.Need-enum-told
 enum-told c = search needs
 
--- src/offer.rt:109:33
 enum-told-2 : tie.Need-enum-told-2
 enum-told-2 c = search needs
 
--- src/offer.rt:109:33
 refusal-requires : tie.Need-refusal-requires
 refusal-requires c κs = search needs
 
--- src/offer.rt:109:9
 returns : tie.Need-returns
 unfolding endTaken next
 returns c = refuses _ _ (rw (c .refusal .ensures, ← (c .before .before .before .end-fields .ensures), c .before .enum-told2 .given .1))
 
--- src/offer.rt:114:14
 closed-requires : tie.Need-closed-requires
 closed-requires c κs = search needs
 
--- src/offer.rt:103:1
 returns-2 : tie.Need-returns-2
 unfolding endTaken next
 returns-2 c = takes _ _ (rw (c .closed .ensures, sym (c .before .before .before .end-fields .ensures) ∙ ap endReply (c .before .enum-told .given .1)))

@@ -1,46 +1,32 @@
-use mathlib.Core.Path.{_≡_, sym, ap, _∙_}
+-- `offer` meets its contract: the head tells the kind, and each kind has its own function.
+use mathlib.Core.Path.{sym, ap, _∙_}
 use native.Mathlib.Omega.{arith}
+use borrow.Author.Needs.{needs}
 use denote.Ref.{now}
-use lib.ListN.{length}
-use Rattle.walk.specs.Answers.{headReply}
-use Rattle.day.specs.Offers.{dayTaken, endTaken, offerOf, writtenOf}
 use Rattle.day.proofs.Taking.{refuses-room, day-room, end-room}
 use Rattle.day.proofs.ByKind.{offer-out, day-long, offer-day, day-writes, group-long, group-room, offer-block, block-writes, end-long, offer-end, end-writes}
-use borrow.Author.Needs.{needs}
-use Rattle.day.proofs.offer.offer.Statement.{statement}
 use Rattle.day.proofs.offer.offer.Tie as tie
-use Rattle.day.proofs.offer.offer.Reads as reads
-use Rattle.day.proofs.offer.offer.Lts as lts
-use Rattle.day.proofs.offer.close_day.Reads as close-day-reads
-use Rattle.day.proofs.offer.day_head.Reads as day-head-reads
-use Rattle.day.proofs.offer.open_day.Reads as open-day-reads
-use Rattle.day.proofs.offer.take_block.Reads as take-block-reads
-use Rattle.walk.proofs.table.HeadAnswer.refusal.Reads as refusal-reads
+use Rattle.day.proofs.offer.offer.Statement.{statement}
+use Rattle.walk.specs.Answers.{headReply}
 
--- src/offer.rt:122:9
 day-head-requires : tie.Need-day-head-requires
 day-head-requires c κs = search needs
 
--- src/offer.rt:123:24
 enum-known-h : tie.Need-enum-known-h
 enum-known-h c = search needs
 
--- src/offer.rt:124:33
 enum-told : tie.Need-enum-told
 enum-told c = search needs
 
--- src/offer.rt:124:33
 refusal-requires : tie.Need-refusal-requires
 refusal-requires c κs = search needs
 
--- src/offer.rt:124:9
 returns : tie.Need-returns
 returns c =
     let s = c .before .before .before .before .before .before in
     refuses-room _ _ _ _
     (offer-out (s .args .day) (now (s .args .s)) _ (rw (c .refusal .ensures, ← (c .before .before .before .day-head .ensures), c .before .enum-told .given .1)))
 
--- src/offer.rt:128:9
 open-day-requires : tie.Need-open-day-requires
 open-day-requires c κs =
     let s = c .before .before .before .before .before .before .before in
@@ -50,7 +36,6 @@ open-day-requires c κs =
     let e = sym (c .before .before .before .before .day-head .ensures) ∙ ap headReply (c .before .before .h .given .1) in
     day-long d b h e (c .if1 .taken)
 
--- src/offer.rt:128:9
 returns-2 : tie.Need-returns-2
 returns-2 c =
     let s = c .before .before .before .before .before .before .before .before in
@@ -61,7 +46,6 @@ returns-2 c =
     let k = c .before .if1 .taken in
     rw (offer-day d b h e k _, day-writes d b h e k) (record { gave = c .open-day .ensures; room = day-room b _ })
 
--- src/offer.rt:131:9
 take-block-requires : tie.Need-take-block-requires
 take-block-requires c κs =
     let s = c .before .before .before .before .before .before .before .before .before in
@@ -72,11 +56,9 @@ take-block-requires c κs =
     let k = c .before .if2 .taken in
     (group-long d b h e k, omega (arith, group-room d b h e k))
 
--- src/offer.rt:131:9
 same-length : tie.Need-same-length
 same-length c = search needs
 
--- src/offer.rt:131:9
 returns-3 : tie.Need-returns-3
 returns-3 c =
     let s = c .before .before .before .before .before .before .before .before .before .before .before .before in
@@ -87,7 +69,6 @@ returns-3 c =
     let k = c .before .before .before .before .if2 .taken in
     rw (offer-block d b h e k _, block-writes d b h e k) (c .before .before .take-block .ensures)
 
--- src/offer.rt:133:5
 close-day-requires : tie.Need-close-day-requires
 close-day-requires c κs =
     let s = c .before .before .before .before .before .before .before .before in
@@ -97,7 +78,6 @@ close-day-requires c κs =
     let e = sym (c .before .before .before .before .before .day-head .ensures) ∙ ap headReply (c .before .before .before .h .given .1) in
     end-long d b h e (c .before .if1 .left) (c .if2 .left)
 
--- src/offer.rt:119:1
 returns-4 : tie.Need-returns-4
 returns-4 c =
     let s = c .before .before .before .before .before .before .before .before .before in

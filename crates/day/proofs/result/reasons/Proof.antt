@@ -1,6 +1,5 @@
 -- The loop's invariant: the reasons are told up to unit i. A turn stores the reason of its unit.
 use Prim.Native.Nat.{ℕ, _-_, _≤_}
-use mathlib.Core.Path.{_≡_, _∙_}
 use mathlib.Core.Bool.{Bool, false}
 use mathlib.Core.List.{List}
 use native.Mathlib.Omega.{arith}
@@ -12,14 +11,11 @@ use mir.Syntax.{w32}
 use mir.Val.{SFits}
 use mir.Facts.{toZ-ofZ}
 use Rattle.numbers.specs.Column.{at}
-use Rattle.group.specs.Steps.{reasonOf}
 use Rattle.records.proofs.Filling.{Filled, fill-none, fill-more, fill-all}
+use Rattle.group.specs.Steps.{reasonOf}
 use Rattle.day.specs.Blocks.{reasonColumn, Told}
-use Rattle.day.proofs.result.reasons.Statement.{statement}
 use Rattle.day.proofs.result.reasons.Tie as tie
-use Rattle.day.proofs.result.reasons.Reads as reads
-use Rattle.day.proofs.result.reasons.Lts as lts
-use Rattle.group.proofs.unit.reason.Reads as reason-reads
+use Rattle.day.proofs.result.reasons.Statement.{statement}
 
 -- the reason of the unit of an index
 abbrev reasonAt : List Bool → List ℤ → List ℤ → List ℤ → List ℤ → List ℤ → List ℤ → ℕ → ℕ
@@ -37,81 +33,62 @@ Inv-loop implicit n0 n1 n2 n3 step-down step-up reasons₀ i₀ reasons i = Goin
 abbrev μ-loop : tie.MeasureT-loop
 μ-loop implicit n0 n1 n2 n3 step-down step-up reasons₀ i₀ reasons i = length n0 - i
 
--- src/result.rt:29:5
 loop-holds : tie.Need-loop-holds Inv-loop μ-loop
 loop-holds c =
     let s = c .before .before in
     record { within = omega arith; told = s .pre; filled = fill-none _ _ _ (s .pre .reasons) }
 
--- src/result.rt:31:13
 shared-slice-read-reason : tie.Need-shared-slice-read-reason Inv-loop μ-loop
 shared-slice-read-reason c = omega arith
 
--- src/result.rt:32:13
 mul-reason : tie.Need-mul-reason Inv-loop μ-loop
 mul-reason c = omega arith
 
--- src/result.rt:32:13
 shared-slice-copy-out-reason : tie.Need-shared-slice-copy-out-reason Inv-loop μ-loop
 shared-slice-copy-out-reason c = omega arith
 
--- src/result.rt:33:13
 mul-reason-2 : tie.Need-mul-reason-2 Inv-loop μ-loop
 mul-reason-2 c = omega arith
 
--- src/result.rt:33:13
 shared-slice-copy-out-reason-2 : tie.Need-shared-slice-copy-out-reason-2 Inv-loop μ-loop
 shared-slice-copy-out-reason-2 c = omega arith
 
--- src/result.rt:34:13
 mul-reason-3 : tie.Need-mul-reason-3 Inv-loop μ-loop
 mul-reason-3 c = omega arith
 
--- src/result.rt:34:13
 shared-slice-copy-out-reason-3 : tie.Need-shared-slice-copy-out-reason-3 Inv-loop μ-loop
 shared-slice-copy-out-reason-3 c = omega arith
 
--- src/result.rt:35:13
 mul-reason-4 : tie.Need-mul-reason-4 Inv-loop μ-loop
 mul-reason-4 c = omega arith
 
--- src/result.rt:35:13
 shared-slice-copy-out-reason-4 : tie.Need-shared-slice-copy-out-reason-4 Inv-loop μ-loop
 shared-slice-copy-out-reason-4 c = omega arith
 
--- src/result.rt:36:13
 mul-reason-5 : tie.Need-mul-reason-5 Inv-loop μ-loop
 mul-reason-5 c = omega arith
 
--- src/result.rt:36:13
 shared-slice-copy-out-reason-5 : tie.Need-shared-slice-copy-out-reason-5 Inv-loop μ-loop
 shared-slice-copy-out-reason-5 c = omega arith
 
--- src/result.rt:37:13
 mul-reason-6 : tie.Need-mul-reason-6 Inv-loop μ-loop
 mul-reason-6 c = omega arith
 
--- src/result.rt:37:13
 shared-slice-copy-out-reason-6 : tie.Need-shared-slice-copy-out-reason-6 Inv-loop μ-loop
 shared-slice-copy-out-reason-6 c = omega arith
 
--- src/result.rt:30:22
 reason-requires : tie.Need-reason-requires Inv-loop μ-loop
 reason-requires c κs = search needs
 
--- src/result.rt:30:9
 slice-write-reasons : tie.Need-slice-write-reasons Inv-loop μ-loop
 slice-write-reasons c = omega arith
 
--- src/result.rt:39:9
 add-i : tie.Need-add-i Inv-loop μ-loop
 add-i c = omega arith
 
--- src/result.rt:29:5
 loop-less : tie.Need-loop-less Inv-loop μ-loop
 loop-less c = omega arith
 
--- src/result.rt:29:5
 loop-again : tie.Need-loop-again Inv-loop μ-loop
 loop-again c =
     let b = c .before in
@@ -132,11 +109,9 @@ loop-again c =
       filled = fill-more _ _ _ i (v .reasons) _ t (simp toZ-ofZ at (c .reason .ensures)) (inv .filled);
     }
 
--- src/result.rt:15:1
 same-length : tie.Need-same-length Inv-loop μ-loop
 same-length c = omega arith
 
--- src/result.rt:15:1
 returns : tie.Need-returns Inv-loop μ-loop
 unfolding reasonColumn
 returns c =

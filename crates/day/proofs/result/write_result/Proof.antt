@@ -1,106 +1,80 @@
+-- `write_result` meets its contract, which is that of `write_through` over its columns of 64.
 use mathlib.Core.Path.{sym}
-use lib.Seq.{length-take-le}
 use borrow.Author.Needs.{needs}
-use Rattle.day.proofs.result.write_result.Statement.{statement}
+use lib.Seq.{length-take-le}
 use Rattle.day.proofs.result.write_result.Tie as tie
-use Rattle.day.proofs.result.write_result.Reads as reads
-use Rattle.day.proofs.result.write_result.Lts as lts
-use Rattle.day.proofs.result.write_through.Reads as write-through-reads
+use Rattle.day.proofs.result.write_result.Statement.{statement}
 
--- src/result.rt:154:9
 array-borrow-prefix-number : tie.Need-array-borrow-prefix-number
 array-borrow-prefix-number c = search needs
 
--- src/result.rt:154:9
 slice-aggregate-write-through : tie.Need-slice-aggregate-write-through
 slice-aggregate-write-through c = sym (length-take-le _ _ (c .before .before .before .before .pre .passed .few))
 
--- src/result.rt:155:9
 array-borrow-prefix-class : tie.Need-array-borrow-prefix-class
 array-borrow-prefix-class c = search needs
 
--- src/result.rt:155:9
 slice-aggregate-write-through-2 : tie.Need-slice-aggregate-write-through-2
 slice-aggregate-write-through-2 c = sym (length-take-le _ _ (c .before .before .before .before .before .pre .passed .few))
 
--- src/result.rt:156:9
 array-borrow-prefix-implicit : tie.Need-array-borrow-prefix-implicit
 array-borrow-prefix-implicit c = search needs
 
--- src/result.rt:156:9
 slice-aggregate-write-through-3 : tie.Need-slice-aggregate-write-through-3
 slice-aggregate-write-through-3 c = sym (length-take-le _ _ (c .before .before .before .before .before .before .pre .passed .few))
 
--- src/result.rt:157:9
 array-borrow-prefix-n0 : tie.Need-array-borrow-prefix-n0
 array-borrow-prefix-n0 c = search needs
 
--- src/result.rt:157:9
 slice-aggregate-write-through-4 : tie.Need-slice-aggregate-write-through-4
 slice-aggregate-write-through-4 c = sym (length-take-le _ _ (c .before .before .before .before .before .before .before .pre .passed .few))
 
--- src/result.rt:158:9
 array-borrow-prefix-pc : tie.Need-array-borrow-prefix-pc
 array-borrow-prefix-pc c = search needs
 
--- src/result.rt:158:9
 slice-aggregate-write-through-5 : tie.Need-slice-aggregate-write-through-5
 slice-aggregate-write-through-5 c = sym (length-take-le _ _ (c .before .before .before .before .before .before .before .before .pre .passed .few))
 
--- src/result.rt:159:9
 array-borrow-prefix-step-down : tie.Need-array-borrow-prefix-step-down
 array-borrow-prefix-step-down c = search needs
 
--- src/result.rt:159:9
 slice-aggregate-write-through-6 : tie.Need-slice-aggregate-write-through-6
 slice-aggregate-write-through-6 c = sym (length-take-le _ _ (c .before .before .before .before .before .before .before .before .before .pre .passed .few))
 
--- src/result.rt:160:9
 array-borrow-prefix-step-up : tie.Need-array-borrow-prefix-step-up
 array-borrow-prefix-step-up c = search needs
 
--- src/result.rt:160:9
 slice-aggregate-write-through-7 : tie.Need-slice-aggregate-write-through-7
 slice-aggregate-write-through-7 c = sym (length-take-le _ _ (c .before .before .before .before .before .before .before .before .before .before .pre .passed .few))
 
--- src/result.rt:161:9
 array-borrow-prefix-n1 : tie.Need-array-borrow-prefix-n1
 array-borrow-prefix-n1 c = search needs
 
--- src/result.rt:161:9
 slice-aggregate-write-through-8 : tie.Need-slice-aggregate-write-through-8
 slice-aggregate-write-through-8 c = sym (length-take-le _ _ (c .before .before .before .before .before .before .before .before .before .before .before .pre .passed .few))
 
--- src/result.rt:162:9
 array-borrow-prefix-n2 : tie.Need-array-borrow-prefix-n2
 array-borrow-prefix-n2 c = search needs
 
--- src/result.rt:162:9
 slice-aggregate-write-through-9 : tie.Need-slice-aggregate-write-through-9
 slice-aggregate-write-through-9 c = sym (length-take-le _ _ (c .before .before .before .before .before .before .before .before .before .before .before .before .pre .passed .few))
 
--- src/result.rt:163:9
 array-borrow-prefix-n3 : tie.Need-array-borrow-prefix-n3
 array-borrow-prefix-n3 c = search needs
 
--- src/result.rt:163:9
 slice-aggregate-write-through-10 : tie.Need-slice-aggregate-write-through-10
 slice-aggregate-write-through-10 c = sym (length-take-le _ _ (c .before .before .before .before .before .before .before .before .before .before .before .before .before .pre .passed .few))
 
--- src/result.rt:164:9
 array-borrow-prefix-reason : tie.Need-array-borrow-prefix-reason
 array-borrow-prefix-reason c = search needs
 
--- src/result.rt:164:9
 slice-aggregate-write-through-11 : tie.Need-slice-aggregate-write-through-11
 slice-aggregate-write-through-11 c = sym (length-take-le _ _ (c .before .before .before .before .before .before .before .before .before .before .before .before .before .before .pre .passed .few))
 
--- src/result.rt:149:5
 write-through-requires : tie.Need-write-through-requires
 write-through-requires c κs =
     let s = c .before .before .before .before .before .before .before .before .before .before .before .before .before .before in
-    let h = s .pre .passed .few in
-    (
+    let h = s .pre .passed .few in (
       s .pre,
       (
         record {
@@ -118,11 +92,9 @@ write-through-requires c κs =
       ),
     )
 
--- src/result.rt:133:1
 same-length : tie.Need-same-length
 same-length c = search needs
 
--- src/result.rt:133:1
 returns : tie.Need-returns
 returns c = search needs
 

@@ -1,20 +1,15 @@
+-- `Day::could_be_open` meets its contract, by its two tests.
 use borrow.Author.Tests.{eq-eqb, ne-eqb}
 use borrow.Author.Needs.{needs}
-use Rattle.day.proofs.value.Day.could_be_open.Statement.{statement}
 use Rattle.day.proofs.value.Day.could_be_open.Tie as tie
-use Rattle.day.proofs.value.Day.could_be_open.Reads as reads
-use Rattle.day.proofs.value.Day.could_be_open.Lts as lts
-use Rattle.records.proofs.day.DayRecord.permits.Reads as permits-reads
+use Rattle.day.proofs.value.Day.could_be_open.Statement.{statement}
 
--- src/value.rt:80:13
 returns : tie.Need-returns
 returns c = simp (eq-eqb _ _ (c .if1 .taken))
 
--- src/value.rt:83:9
 permits-requires : tie.Need-permits-requires
 permits-requires c κs = search needs
 
--- src/value.rt:76:5
 returns-2 : tie.Need-returns-2
 returns-2 c = simp (c .permits .ensures, ne-eqb _ _ (c .before .before .if1 .left))
 

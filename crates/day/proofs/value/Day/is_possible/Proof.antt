@@ -1,35 +1,26 @@
+-- `Day::is_possible` meets its contract, by the state.
 use borrow.Author.Needs.{needs}
-use Rattle.day.proofs.value.Day.is_possible.Statement.{statement}
 use Rattle.day.proofs.value.Day.is_possible.Tie as tie
-use Rattle.day.proofs.value.Day.is_possible.Reads as reads
-use Rattle.day.proofs.value.Day.is_possible.Lts as lts
-use Rattle.day.proofs.value.Day.could_be_open.Reads as could-be-open-reads
+use Rattle.day.proofs.value.Day.is_possible.Statement.{statement}
 
--- src/value.rt:92:29
 enum-told : tie.Need-enum-told
 enum-told c = search needs
 
--- src/value.rt:93:28
 enum-told-2 : tie.Need-enum-told-2
 enum-told-2 c = search needs
 
--- src/value.rt:93:28
 could-be-open-requires : tie.Need-could-be-open-requires
 could-be-open-requires c κs = search needs
 
--- src/value.rt:94:30
 enum-told-3 : tie.Need-enum-told-3
 enum-told-3 c = search needs
 
--- src/value.rt:87:5
 returns : tie.Need-returns
 returns c = search needs
 
--- src/value.rt:87:5
 returns-2 : tie.Need-returns-2
 returns-2 c = rw (c .could-be-open .ensures, c .before .enum-told2 .given .1)
 
--- src/value.rt:87:5
 returns-3 : tie.Need-returns-3
 returns-3 c = search needs
 

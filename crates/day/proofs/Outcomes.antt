@@ -1,0 +1,110 @@
+-- What an offer that was taken was, and what it left: its reply is read back by the kind that came.
+use Prim.Native.Nat.{ℕ, _+_, _*_, _≤_}
+use mathlib.Core.Path.{_≡_, refl, sym, ap, _∙_}
+use mathlib.Core.Bool.{Bool, true, false}
+use mathlib.Core.List.{List, [], _++_}
+use native.Mathlib.Omega.{arith}
+use borrow.Author.Tests.{leb-true, eqb-true, eqb-false, eq-eqb}
+use lib.Dec.{eqb}
+use lib.ListN.{length, take, drop, length-append, length-drop}
+use lib.Seq.{take-at, drop-at}
+use Rattle.numbers.specs.Bytes.{byteAt}
+use Rattle.numbers.specs.Choice.{pick}
+use Rattle.terms.specs.Reply.{Reply, is}
+use Rattle.terms.proofs.Replies.{need-is, next-is}
+use Rattle.records.specs.Layouts.{groupKind, groupAt}
+use Rattle.walk.specs.declared.table.Head.{Head}
+use Rattle.day.specs.declared.value.Day.{Day}
+use Rattle.day.specs.declared.check.Block.{Block}
+use Rattle.day.specs.declared.offer.Step.{Step}
+use Rattle.day.specs.declared.offer.Offered.the-variants as O
+use Rattle.day.specs.Days.{opened, counted, closed}
+use Rattle.day.specs.Checking.{blockOf, blockFieldsOf}
+use Rattle.day.specs.Blocks.{blockKey, blockCount, blockResult}
+use Rattle.day.specs.Offers.{headFor, dayTaken, blockTaken, endTaken, taken, offerOf, writtenOf, roomAfter, Offers}
+use Rattle.day.proofs.Read.{Read, read}
+use Rattle.day.proofs.Taking.{result-length}
+use Rattle.day.proofs.ByKind.{head-came, group-long, offer-block, block-writes, offer-day, offer-end}
+
+-- a block that was taken
+pub record TakenBlock (day : Day) (s : List ℕ) (room : ℕ) (step : Step) : Type 0 where
+  pub long : 10 ≤ length s
+  pub fields : blockFieldsOf day s ≡ is (blockOf (groupAt s 0) (10 + 26 * blockCount s))
+  pub enough : 27 + 20 * blockCount s ≤ room
+  pub value : step ≡ record { used = 10 + 26 * blockCount s; written = 27 + 20 * blockCount s; day = counted day (blockKey s) }
+
+module _ (day : Day) (s : List ℕ) (room : ℕ) {step : Step} where
+  by-fields : 10 ≤ length s → {block : Block} → blockFieldsOf day s ≡ is block → block .written ≤ room
+      → step ≡ record { used = block .used; written = block .written; day = counted day (block .key) } → TakenBlock day s room step
+  by-fields long e h v =
+      let r = read day s e in
+      record { long = long; fields = e ∙ ap is (r .value); enough = rw (r .value) at h; value = rw (r .value) at v }
+
+  from-block : 10 ≤ length s → blockTaken day s room ≡ is step → TakenBlock day s room step
+  unfolding blockTaken
+  from-block long e =
+      let a = next-is _ _ e in
+      let b = need-is _ _ _ _ (a .1 .1) in
+      by-fields long (a .1 .0) (leb-true (a .0 .written) room (b .0)) (cc (b .1))
+
+  module _ (e : offerOf day s room ≡ is step) where
+    head-taken : (head : Head) × ((headFor day s ≡ is head) × (taken day s room (head .kind) ≡ is step))
+    unfolding offerOf
+    head-taken = next-is _ _ e
+
+    -- the block of a taken offer that begins with 02h
+    pub taken-block : byteAt s 0 ≡ groupKind → TakenBlock day s room step
+    taken-block k =
+        let a = head-taken in
+        let m : a .0 .kind ≡ 2 = sym (head-came day s (a .0) (a .1 .0) .first) ∙ k in
+        from-block (group-long day s (a .0) (a .1 .0) m) (sym (offer-block day s (a .0) (a .1 .0) m room) ∙ e)
+
+    -- a day or an end writes nothing
+    day-none : dayTaken s ≡ is step → step .written ≡ 0
+    unfolding dayTaken
+    day-none h =
+        let a = next-is _ _ h in
+        let v : step ≡ record { used = 12; written = 0; day = opened (a .0) } = cc (a .1 .1) in
+        ap (λ (x : Step). x .written) v
+
+    end-none : endTaken day s ≡ is step → step .written ≡ 0
+    unfolding endTaken
+    end-none h =
+        let a = next-is _ _ h in
+        let v : step ≡ record { used = 5; written = 0; day = closed day } = cc (a .1 .1) in
+        ap (λ (x : Step). x .written) v
+
+    none-written : (byteAt s 0 ≡ groupKind → ⊥) → step .written ≡ 0
+    none-written n =
+        let a = head-taken in
+        let f = head-came day s (a .0) (a .1 .0) .first in
+        go (a .0 .kind) (eqb (a .0 .kind) 1) (eqb (a .0 .kind) 2) refl (λ k. n (f ∙ k)) (a .1 .1)
+      where
+        go : (kind : ℕ) (d g : Bool) → eqb kind 2 ≡ g → (kind ≡ 2 → ⊥)
+            → pick d (dayTaken s) (pick g (blockTaken day s room) (endTaken day s)) ≡ is step → step .written ≡ 0
+        go kind true g q n h = day-none h
+        go kind false true q n h = absurd (n (eqb-true kind 2 q))
+        go kind false false q n h = end-none h
+
+    -- what was written is as long as the reply tells
+    pub written-length : length (writtenOf s) ≡ step .written
+    written-length = go (eqb (byteAt s 0) groupKind) refl
+      where
+        go : (b : Bool) → eqb (byteAt s 0) groupKind ≡ b → length (pick b (blockResult s) []) ≡ step .written
+        go true q = result-length s (blockKey s) (blockCount s) ∙ sym (ap (λ (x : Step). x .written) (taken-block (eqb-true _ _ q) .value))
+        go false q = sym (none-written (eqb-false _ _ q))
+
+-- the room after a taken offer
+module _ (day : Day) (s entry : List ℕ) {step : Step} {exit : List ℕ} (o : Offers day s entry (O.Taken step) exit) where
+  pub reply : offerOf day s (length entry) ≡ is step
+  reply = sym (o .gave .replied)
+
+  pub laid-out : exit ≡ writtenOf s ++ drop (step .written) entry
+  unfolding roomAfter
+  laid-out = o .room ∙ rw reply
+
+  pub result-at-front : take (step .written) exit ≡ writtenOf s
+  result-at-front = ap (take (step .written)) laid-out ∙ take-at (writtenOf s) (drop (step .written) entry) (step .written) (written-length day s (length entry) reply)
+
+  pub rest-kept : drop (step .written) exit ≡ drop (step .written) entry
+  rest-kept = ap (drop (step .written)) laid-out ∙ drop-at (writtenOf s) (drop (step .written) entry) (step .written) (written-length day s (length entry) reply)
