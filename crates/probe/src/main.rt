@@ -3,9 +3,11 @@ ghost use Prim.Native.Nat.{_≤_};
 ghost use lib.ListN.{length};
 
 mod columns;
+mod days;
 mod fields;
 mod frame;
 mod rooms;
+mod steps;
 mod writes;
 
 use frame::Head;
@@ -24,9 +26,13 @@ fn call(number: u8, body: &[u8], reply: &mut [u8]) -> usize
     }
     match number {
         1 => columns::answer(body, reply),
+        2 => days::offered(body, reply),
+        3 => days::checked(body, reply),
         4 => writes::day(body, reply),
         5 => writes::block(body, reply),
         6 => writes::end(body, reply),
+        7 => steps::step(body, reply),
+        8 => steps::walker(body, reply),
         _ => 0,
     }
 }

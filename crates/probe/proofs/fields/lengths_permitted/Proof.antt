@@ -39,7 +39,9 @@ loop-again : tie.Need-loop-again Inv-loop μ-loop
 loop-again c = (omega arith, below-more _ _ (c .before .before .before .loop .inv .1) (c .if2 .left))
 
 returns-3 : tie.Need-returns-3 Inv-loop μ-loop
-returns-3 c = λ e. record { there = omega arith; few = λ k h. c .before .loop .inv .1 k (omega arith) }
+returns-3 c =
+    let start = c .before .before .before in
+    λ e. record { there = omega arith; few = λ k h. c .before .loop .inv .1 k (omega arith) }
 
 pub lengths-permitted-spec : {M : Type 1} → statement M
 lengths-permitted-spec =
