@@ -1,0 +1,3 @@
+-- What the proof of the C call rests on.
+pub mod First
+pub mod Unique

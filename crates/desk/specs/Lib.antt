@@ -1,0 +1,2 @@
+-- What the desk's screen program gets back.
+pub mod Desk
