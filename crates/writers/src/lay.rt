@@ -4,7 +4,7 @@ ghost use mathlib.Core.List.{[], _∷_};
 ghost use Prim.Native.Nat.{_+_, _≤_};
 ghost use lib.ListN.{length};
 ghost use Rattle.numbers.specs.Bytes.{bytes16, laidAt};
-ghost use Rattle.records.specs.Layouts.{dayBytes, groupBytes, unitBytes, endBytes, groupResultBytes, unitResultBytes};
+ghost use Rattle.records.specs.Layouts.{dayBytes, groupBytes, unitBytes, endBytes, groupResultBytes};
 ghost use Rattle.writers.specs.Runs.{quantities};
 use numbers::bytes::lay_i32;
 use numbers::bytes::lay_u8;
@@ -15,10 +15,9 @@ use records::end::EndRecord;
 use records::group::GroupRecord;
 use records::group_result::GroupResult;
 use records::unit::UnitRecord;
-use records::unit_result::UnitResult;
 
 // The kind, and the number of 16 bits that five of the six records begin with.
-fn lay_head(room: &mut [u8], at: usize, kind: u8, first: u16)
+pub fn lay_head(room: &mut [u8], at: usize, kind: u8, first: u16)
     requires { ⌜ at + 3 ≤ length (now room) ⌝ }
     ensures { λ _. ⌜ now (room .exit) ≡ laidAt (now (room .entry)) at (kind ∷ bytes16 first) ⌝ }
 {
@@ -107,17 +106,4 @@ pub fn lay_group_result(room: &mut [u8], at: usize, g: GroupResult)
     lay_u8(room, at + GroupResult::COUNT, g.count);
     lay_four(room, at + GroupResult::P, p.0, s1.0, s2.0, s3.0);
     lay_i32(room, at + GroupResult::BALANCE, balance.0);
-}
-
-pub fn lay_unit_result(room: &mut [u8], at: usize, u: UnitResult)
-    requires { ⌜ at + 20 ≤ length (now room) ⌝ }
-    ensures { λ _. ⌜ now (room .exit) ≡ laidAt (now (room .entry)) at (unitResultBytes u) ⌝ }
-{
-    let n0 = u.n0;
-    let n1 = u.n1;
-    let n2 = u.n2;
-    let n3 = u.n3;
-    lay_head(room, at, UnitResult::KIND, u.number);
-    lay_u8(room, at + UnitResult::REASON, u.reason);
-    lay_four(room, at + UnitResult::N0, n0.0, n1.0, n2.0, n3.0);
 }

@@ -1,17 +1,42 @@
 // The result of a block: one group result, and a unit result for each unit.
 ghost use mathlib.Core.Path.{_≡_};
 ghost use Prim.Native.Nat.{_+_, _*_, _<_, _≤_};
-ghost use lib.ListN.{length};
-ghost use Rattle.numbers.specs.Bytes.{laidAt};
+ghost use lib.IntN.{pos};
+ghost use lib.ListN.{length, getD};
+ghost use Rattle.numbers.specs.Bytes.{bytes32, bits32, laidAt};
+ghost use Rattle.records.specs.Layouts.{unitResultBytes};
+ghost use Rattle.writers.specs.Runs.{quantities};
 ghost use Rattle.writers.specs.Results.{results, resultOf, unitResultsBytes, resultBytes, LongResults, Laying};
 use crate::lay::lay_group_result;
-use crate::lay::lay_unit_result;
+use crate::lay::lay_head;
+use numbers::bytes::lay_i32;
+use numbers::bytes::lay_u8;
 use records::group_result::GroupResult;
 use records::unit_result::UnitResult;
-use terms::quantity::Nomination;
 
-// The result of the unit of an index.
-fn result(
+// The entry of an index, read right before it is stored, so that its four bytes are one store.
+fn lay_entry(room: &mut [u8], at: usize, column: &[i32], i: usize)
+    requires { ⌜ (at + 4 ≤ length (now room)) × (i < length (now column)) ⌝ }
+    ensures { λ _. ⌜ now (room .exit) ≡ laidAt (now (room .entry)) at (bytes32 (bits32 (getD (now (column .entry)) i (pos 0)))) ⌝ }
+{
+    lay_i32(room, at, column[i]);
+}
+
+// n0 to n3 of the unit of an index.
+fn lay_steps(room: &mut [u8], at: usize, n0: &[i32], n1: &[i32], n2: &[i32], n3: &[i32], i: usize)
+    requires { ⌜ (at + 16 ≤ length (now room)) × ((i < length (now n0)) × ((i < length (now n1)) × ((i < length (now n2)) × (i < length (now n3))))) ⌝ }
+    ensures { λ _. ⌜ now (room .exit) ≡ laidAt (now (room .entry)) at (quantities (getD (now (n0 .entry)) i (pos 0)) (getD (now (n1 .entry)) i (pos 0)) (getD (now (n2 .entry)) i (pos 0)) (getD (now (n3 .entry)) i (pos 0))) ⌝ }
+{
+    lay_entry(room, at, n0, i);
+    lay_entry(room, at + 4, n1, i);
+    lay_entry(room, at + 8, n2, i);
+    lay_entry(room, at + 12, n3, i);
+}
+
+// The result of the unit of an index, at a place.
+fn lay_result(
+    room: &mut [u8],
+    at: usize,
     number: &[u16],
     reason: &[u8],
     n0: &[i32],
@@ -20,18 +45,13 @@ fn result(
     n3: &[i32],
     units: usize,
     i: usize,
-) -> UnitResult
-    requires { ⌜ LongResults units (results (now number) (now reason) (now n0) (now n1) (now n2) (now n3)) × (i < units) ⌝ }
-    ensures { λ r. ⌜ r ≡ resultOf (results (now (number .entry)) (now (reason .entry)) (now (n0 .entry)) (now (n1 .entry)) (now (n2 .entry)) (now (n3 .entry))) i ⌝ }
+)
+    requires { ⌜ LongResults units (results (now number) (now reason) (now n0) (now n1) (now n2) (now n3)) × ((i < units) × (at + 20 ≤ length (now room))) ⌝ }
+    ensures { λ _. ⌜ now (room .exit) ≡ laidAt (now (room .entry)) at (unitResultBytes (resultOf (results (now (number .entry)) (now (reason .entry)) (now (n0 .entry)) (now (n1 .entry)) (now (n2 .entry)) (now (n3 .entry))) i)) ⌝ }
 {
-    UnitResult {
-        number: number[i],
-        reason: reason[i],
-        n0: Nomination(n0[i]),
-        n1: Nomination(n1[i]),
-        n2: Nomination(n2[i]),
-        n3: Nomination(n3[i]),
-    }
+    lay_head(room, at, UnitResult::KIND, number[i]);
+    lay_u8(room, at + UnitResult::REASON, reason[i]);
+    lay_steps(room, at + UnitResult::N0, n0, n1, n2, n3, i);
 }
 
 // So many units' results, one after another from a place on.
@@ -51,8 +71,8 @@ fn lay_unit_results(
 {
     let mut i = 0;
     while i < units {
-        let u = result(number, reason, n0, n1, n2, n3, units, i);
-        lay_unit_result(room, at + UnitResult::LEN * i, u);
+        let here = at + UnitResult::LEN * i;
+        lay_result(room, here, number, reason, n0, n1, n2, n3, units, i);
         i += 1;
     }
 }

@@ -32,45 +32,34 @@ loop-holds c =
     let k = results (now (a .number)) (now (a .reason)) (now (a .n0)) (now (a .n1)) (now (a .n2)) (now (a .n3)) in
     start (records k) 20 (each k) (a .units) (a .at) (now (a .room)) (s .pre .1)
 
-result-requires : tie.Need-result-requires Inv-loop μ-loop
-result-requires c κs = (c .before .before .before .before .before .pre .0, c .loop-test .taken)
+mul-here : tie.Need-mul-here Inv-loop μ-loop
+mul-here c = omega (arith, c .before .loop .inv .fits, c .loop-test .taken, c .before .before .before .before .before .good)
 
-mul-lay-unit-result : tie.Need-mul-lay-unit-result Inv-loop μ-loop
-mul-lay-unit-result c =
-    let v = c .before .before .before .loop .inv in
-    let t = c .before .before .loop-test .taken in
-    omega (arith, v .fits, c .before .before .before .before .before .before .before .good)
+add-here : tie.Need-add-here Inv-loop μ-loop
+add-here c = omega (arith, c .before .loop .inv .fits, c .loop-test .taken, c .before .before .before .before .before .good)
 
-add-lay-unit-result : tie.Need-add-lay-unit-result Inv-loop μ-loop
-add-lay-unit-result c =
-    let v = c .before .before .before .loop .inv in
-    let t = c .before .before .loop-test .taken in
-    omega (arith, v .fits, c .before .before .before .before .before .before .before .good)
-
-lay-unit-result-requires : tie.Need-lay-unit-result-requires Inv-loop μ-loop
-lay-unit-result-requires c κs =
-    let v = c .before .before .before .loop .inv in
-    let t = c .before .before .loop-test .taken in
-    omega (arith, v .fits, v .kept)
+lay-result-requires : tie.Need-lay-result-requires Inv-loop μ-loop
+lay-result-requires c κs =
+    let v = c .before .before .loop .inv in
+    let t = c .before .loop-test .taken in
+    (c .before .before .before .before .before .before .pre .0, (t, omega (arith, v .fits, v .kept)))
 
 add-i : tie.Need-add-i Inv-loop μ-loop
 add-i c =
-    let t = c .before .before .before .before .before .loop-test .taken in
-    omega (arith, c .before .before .before .before .before .before .before .before .before .before .pre .0 .few)
+    let t = c .before .before .before .before .loop-test .taken in
+    omega (arith, c .before .before .before .before .before .before .before .before .before .pre .0 .few)
 
 loop-less : tie.Need-loop-less Inv-loop μ-loop
 loop-less c =
-    let t = c .before .before .before .before .before .loop-test .taken in
+    let t = c .before .before .before .before .loop-test .taken in
     omega arith
 
 loop-again : tie.Need-loop-again Inv-loop μ-loop
 loop-again c =
-    let s = c .before .before .before .before .before .before .before .before .before .before in
-    let a = s .args in
-    let l = c .before .before .before .before .before .before .loop in
+    let a = c .before .before .before .before .before .before .before .before .before .args in
+    let l = c .before .before .before .before .before .loop in
     let k = results (now (a .number)) (now (a .reason)) (now (a .n0)) (now (a .n1)) (now (a .n2)) (now (a .n3)) in
-    let put = rw (c .before .before .before .before .result .ensures) at (c .before .before .lay-unit-result .ensures) in
-    turn (records k) 20 (each k) (a .units) (a .at) (now (a .room)) (l .i) (l .inv) (c .before .before .before .before .before .loop-test .taken) put
+    turn (records k) 20 (each k) (a .units) (a .at) (now (a .room)) (l .i) (l .inv) (c .before .before .before .before .loop-test .taken) (c .before .before .lay-result .ensures)
 
 same-length : tie.Need-same-length Inv-loop μ-loop
 same-length c = c .before .loop .inv .kept
@@ -90,10 +79,9 @@ lay-unit-results-spec =
     Inv-loop
     μ-loop
     loop-holds
-    result-requires
-    mul-lay-unit-result
-    add-lay-unit-result
-    lay-unit-result-requires
+    mul-here
+    add-here
+    lay-result-requires
     add-i
     loop-less
     loop-again
