@@ -4,6 +4,7 @@ pub mod Sides
 pub mod Bearing
 pub mod Cuts
 pub mod Ranges
+pub mod Wholly
 pub mod Through
 pub mod Accepting
 pub mod Judging

@@ -1,7 +1,7 @@
 // Step 2: the excess is cut pro quota, from the units that are not enabled first.
 ghost use mathlib.Core.Path.{_≡_};
-ghost use Prim.Native.Nat.{min};
 ghost use lib.ListN.{length};
+ghost use Rattle.numbers.specs.Column.{column};
 ghost use Rattle.group.specs.Group.{sizeOf, sizesOf, taken, step2All};
 ghost use Rattle.group.specs.Asked.{Classed, Borne, Lost, Bearable};
 use crate::band::direction;
@@ -32,10 +32,27 @@ fn sizes_into(d: Direction, k: Standing, n1: &[i32], class: &[u8], sizes: &mut [
     }
 }
 
-fn smaller(a: u32, b: u32) -> u32
-    ensures { λ r. ⌜ r ≡ min a b ⌝ }
+// Nothing is cut.
+fn clear(cuts: &mut [u32])
+    ensures { λ _. ⌜ now (cuts .exit) ≡ column (length (now (cuts .entry))) (λ _. 0) ⌝ }
 {
-    if a < b { a } else { b }
+    let mut i = 0;
+    while i < cuts.len() {
+        cuts[i] = 0;
+        i += 1;
+    }
+}
+
+// All is cut.
+fn copy(sizes: &[u32], cuts: &mut [u32])
+    requires { ⌜ length (now cuts) ≡ length (now sizes) ⌝ }
+    ensures { λ _. ⌜ now (cuts .exit) ≡ now (sizes .entry) ⌝ }
+{
+    let mut i = 0;
+    while i < sizes.len() {
+        cuts[i] = sizes[i];
+        i += 1;
+    }
 }
 
 // As much of c as the units that stand so can bear is cut from them; what is left of c comes back.
@@ -51,11 +68,18 @@ fn cut_standing(
     requires { ⌜ Classed (now n1) (now class) × ((length (now sizes) ≡ length (now n1)) × (length (now cuts) ≡ length (now n1))) ⌝ }
     ensures { λ r. ⌜ Borne (sizesOf d k (now (n1 .entry)) (now (class .entry))) c r (now (cuts .exit)) ⌝ }
 {
+    if c == 0 {
+        clear(cuts);
+        return 0;
+    }
     sizes_into(d, k, n1, class, sizes);
     let t = quota::total(sizes);
-    let share = smaller(c, t);
-    quota::cut(sizes, t, share, cuts);
-    c - share
+    if c < t {
+        quota::cut(sizes, t, c, cuts);
+        return 0;
+    }
+    copy(sizes, cuts);
+    c - t
 }
 
 // Each unit is brought nearer to zero by its cuts, of which one is 0.
@@ -91,11 +115,27 @@ fn cut_through(
     take_off(d, n1, first, second, n2);
 }
 
+// S1 lies in the band, so step 2 leaves every unit as it was.
+fn keep(n1: &[i32], n2: &mut [i32])
+    requires { ⌜ length (now n2) ≡ length (now n1) ⌝ }
+    ensures { λ _. ⌜ now (n2 .exit) ≡ now (n1 .entry) ⌝ }
+{
+    let mut i = 0;
+    while i < n1.len() {
+        n2[i] = n1[i];
+        i += 1;
+    }
+}
+
 // Step 2 of every unit, for the excess e of S1.
 pub fn step2_all(e: i32, n1: &[i32], class: &[u8], n2: &mut [i32])
     requires { ⌜ Bearable e (now n1) (now class) (now n2) ⌝ }
     ensures { λ _. ⌜ now (n2 .exit) ≡ step2All e (now (n1 .entry)) (now (class .entry)) ⌝ }
 {
+    if e == 0 {
+        keep(n1, n2);
+        return;
+    }
     let n = n1.len();
     let mut sizes = [0u32; 64];
     let mut first = [0u32; 64];

@@ -1,22 +1,23 @@
 -- What the two loops of the cut have done after some turns, and that a turn more does more of it: by what a store leaves at each place.
 use Prim.Native.Nat.{ℕ, _+_, _-_, _*_, _/_, _%_, _≤_, _<_}
-use mathlib.Core.Path.{_≡_, _∙_, ap}
-use mathlib.Core.Bool.{Bool, _&&_, and-false}
-use mathlib.Core.List.{List}
+use mathlib.Core.Path.{_≡_, sym, _∙_, ap, ap₂}
+use mathlib.Core.Bool.{Bool}
+use mathlib.Core.List.{List, _++_}
 use native.Mathlib.Omega.{arith}
-use native.Mathlib.Nat.{div-zero, le-refl, not-suc-le-zero, mul-le-mul-right, le-of-mul-le-mul-right}
+use native.Mathlib.Nat.{div-zero, zero-mul, zero-mod, mod-lt, le-refl, mul-le-mul-right, le-of-mul-le-mul-right}
 use native.Mathlib.Decide.{decLt}
 use lib.Dec.{ltb}
-use lib.ListN.{length, getD, set, length-set}
-use lib.Seq.{getD-set-other}
+use lib.ListN.{length, getD, set, take, drop, length-set, length-append}
+use lib.Seq.{take-at, getD-set-other}
 use borrow.Author.Tests.{lt-ltb, le-ltb}
 use Rattle.numbers.specs.Column.{column}
 use Rattle.numbers.specs.Sum.{sum, sumTo, bit}
-use Rattle.numbers.proofs.Columns.{column-length, column-at, is-column, column-ext, set-more}
-use Rattle.numbers.proofs.Sums.{sumTo-one, sumTo-mono, sumTo-none}
-use Rattle.quota.specs.Quota.{whole, rest, before, rank, still, cutAt, cutsOf, Sized, Asked}
-use Rattle.quota.proofs.Ranks.{rankBy, rankBy-is}
-use Rattle.quota.proofs.Shares.{share, wholes-le, dealt-rest}
+use Rattle.numbers.proofs.Columns.{column-length, column-at, column-past, is-column, column-ext, set-more}
+use Rattle.numbers.proofs.Sums.{sumTo-one, sumTo-mono, sumTo-none, sum-bound}
+use Rattle.quota.specs.Quota.{whole, rest, before, rank, still, cutAt, cutsOf, Asked}
+use Rattle.quota.specs.Keys.{keyOf, key, rankedOf, above, dealt}
+use Rattle.quota.proofs.Ranks.{ranked-same, ranked-more, ranked-fits, dealt-is}
+use Rattle.quota.proofs.Shares.{share, wholes-le}
 
 -- the whole parts, T of 0 or not
 module _ (s : List ℕ) (c : ℕ) (le : c ≤ sum s) where
@@ -38,24 +39,50 @@ module _ (s : List ℕ) (c : ℕ) (le : c ≤ sum s) where
       go (yes pos) = wholes-le s c pos le
       go (no h) = omega (arith, sumTo-none (length s) (whole s c) (whole-none (omega arith)))
 
--- after i turns of the first loop: the whole parts and the remainders of i units, and what is left of C
-pub record Wholes (s : List ℕ) (c : ℕ) (cuts rests : List ℕ) (left i : ℕ) : Type 0 where
+-- no total is above 64,000,000, and so no remainder, T of 0 or not
+pub total-small : {s d : List ℕ} {t c : ℕ} → Asked s t c d → t ≤ 64000000
+total-small {s} a = omega (arith, a .total, a .sized .few, sum-bound s 1000000 (a .sized .small))
+
+pub rest-small : (c n t r : ℕ) → c ≤ t → t ≤ 64000000 → r ≡ c * n % t → r ≤ 64000000
+rest-small c n t r l m e = go (decLt 0 t)
+  where
+    go : Dec (0 < t) → r ≤ 64000000
+    go (yes pos) = omega (arith, mod-lt (c * n) pos)
+    go (no h) =
+        let z : c ≡ 0 = omega arith in
+        omega (arith, e ∙ ap (λ (x : ℕ). x * n % t) z ∙ ap (λ (x : ℕ). x % t) (zero-mul n) ∙ zero-mod t)
+
+-- after i turns of the first loop: the whole parts and the keys of i units, those with a remainder again, and what is left of C
+pub record Wholes (s : List ℕ) (c : ℕ) (ranked₀ cuts keys ranked : List ℕ) (left units i : ℕ) : Type 0 where
   pub upto : i ≤ length s
   pub places : length cuts ≡ length s
-  pub kept : length rests ≡ length s
+  pub kept : length keys ≡ length s
+  pub again : length ranked ≡ length s
+  pub fewer : units ≤ i
   pub wholes : (j : ℕ) → j < i → getD cuts j 0 ≡ whole s c j
-  pub others : (j : ℕ) → j < i → getD rests j 0 ≡ rest s c j
+  pub others : (j : ℕ) → j < i → getD keys j 0 ≡ key s c j
+  pub units-are : units ≡ length (rankedOf (key s c) i)
+  pub ranked-are : ranked ≡ rankedOf (key s c) i ++ drop units ranked₀
   pub still-left : left + sumTo i (whole s c) ≡ c
 
-module _ {s d cuts rests : List ℕ} {t c left i : ℕ} (a : Asked s t c d) (h : Wholes s c cuts rests left i) where
+-- and after all of them
+abbrev pub WholesDone : List ℕ → ℕ → List ℕ → List ℕ → List ℕ → List ℕ → ℕ → ℕ → Type 0
+WholesDone s c ranked₀ cuts keys ranked left units =
+    (left ≡ still s c)
+    × (units ≡ length (rankedOf (key s c) (length s)))
+    × (cuts ≡ column (length s) (whole s c))
+    × (keys ≡ column (length s) (key s c))
+    × (ranked ≡ rankedOf (key s c) (length s) ++ drop units ranked₀)
+
+module _ {s d ranked₀ cuts keys ranked : List ℕ} {t c left units i : ℕ} (a : Asked s t c d) (h : Wholes s c ranked₀ cuts keys ranked left units i) where
   module _ (w r : ℕ) (l : i < length s) (w-is : w ≡ c * getD s i 0 / t) (r-is : r ≡ c * getD s i 0 % t) where
     w-whole : w ≡ whole s c i
     unfolding whole
     w-whole = w-is ∙ ap (λ (x : ℕ). c * getD s i 0 / x) (a .total)
 
-    r-rest : r ≡ rest s c i
-    unfolding rest
-    r-rest = r-is ∙ ap (λ (x : ℕ). c * getD s i 0 % x) (a .total)
+    r-key : keyOf r i ≡ key s c i
+    unfolding key rest
+    r-key = ap (λ (x : ℕ). keyOf x i) (r-is ∙ ap (λ (x : ℕ). c * getD s i 0 % x) (a .total))
 
     -- no more is taken off than is left
     pub whole-left : w ≤ left
@@ -63,95 +90,122 @@ module _ {s d cuts rests : List ℕ} {t c left i : ℕ} (a : Asked s t c d) (h :
         let le : c ≤ sum s = omega (arith, a) in
         omega (arith, w-whole, sumTo-one i (whole s c), sumTo-mono (i + 1) (length s) (whole s c) (omega arith), wholes-fit s c le)
 
-    pub wholes-more : Wholes s c (set cuts i w) (set rests i r) (left - w) (i + 1)
-    wholes-more =
+    -- one unit more, whatever becomes of the keys that are ranked
+    turn : {ranked₁ : List ℕ} {units₁ : ℕ} → length ranked₁ ≡ length s → units₁ ≡ length (rankedOf (key s c) (i + 1)) →
+        ranked₁ ≡ rankedOf (key s c) (i + 1) ++ drop units₁ ranked₀ →
+        Wholes s c ranked₀ (set cuts i w) (set keys i (keyOf r i)) ranked₁ (left - w) units₁ (i + 1)
+    turn again units-are ranked-are =
+        let x : ℕ = keyOf r i in
         record {
           upto = omega arith;
           places = length-set cuts i w ∙ h .places;
-          kept = length-set rests i r ∙ h .kept;
+          kept = length-set keys i x ∙ h .kept;
+          again = again;
+          fewer = omega (arith, units-are, ranked-fits (key s c) (i + 1));
           wholes = set-more (whole s c) 0 cuts i w (omega arith) w-whole (h .wholes);
-          others = set-more (rest s c) 0 rests i r (omega arith) r-rest (h .others);
+          others = set-more (key s c) 0 keys i x (omega arith) r-key (h .others);
+          units-are = units-are;
+          ranked-are = ranked-are;
           still-left = omega (arith, whole-left, w-whole, sumTo-one i (whole s c));
         }
 
-  pub wholes-end : length s ≤ i →
-      (left ≡ still s c) × (cuts ≡ column (length s) (whole s c)) × (rests ≡ column (length s) (rest s c))
+    -- the key of a unit without a remainder is not ranked
+    pub wholes-plain : r ≡ 0 → Wholes s c ranked₀ (set cuts i w) (set keys i (keyOf r i)) ranked (left - w) units (i + 1)
+    wholes-plain z =
+        let same : rankedOf (key s c) (i + 1) ≡ rankedOf (key s c) i = ranked-same (key s c) i (omega (arith, r-key)) in
+        turn (h .again) (h .units-are ∙ ap length (sym same)) (h .ranked-are ∙ ap (λ (k : List ℕ). k ++ drop units ranked₀) (sym same))
+
+    pub wholes-more : 0 < r → length ranked₀ ≡ length s →
+        Wholes s c ranked₀ (set cuts i w) (set keys i (keyOf r i)) (set ranked units (keyOf r i)) (left - w) (units + 1) (i + 1)
+    wholes-more pos len =
+        let more = ranked-more (key s c) i ranked₀ units (h .units-are) (omega arith) (omega (arith, r-key)) in
+        turn (length-set ranked units (keyOf r i) ∙ h .again) (more .0)
+        (ap₂ (λ (k : List ℕ) (y : ℕ). set k units y) (h .ranked-are) r-key ∙ more .1)
+
+  pub wholes-end : length s ≤ i → WholesDone s c ranked₀ cuts keys ranked left units
   unfolding still
   wholes-end full =
       let e : i ≡ length s = omega arith in (
         omega (arith, ap (λ (n : ℕ). sumTo n (whole s c)) e),
+        h .units-are ∙ ap (λ (n : ℕ). length (rankedOf (key s c) n)) e,
         is-column (whole s c) 0 (length s) cuts (h .places) (λ j m. h .wholes j (omega arith)),
-        is-column (rest s c) 0 (length s) rests (h .kept) (λ j m. h .others j (omega arith)),
+        is-column (key s c) 0 (length s) keys (h .kept) (λ j m. h .others j (omega arith)),
+        h .ranked-are ∙ ap (λ (n : ℕ). rankedOf (key s c) n ++ drop units ranked₀) e,
       )
 
--- after k turns of the second loop: the cuts of k units, the whole parts of the others, and what the first loop left
-pub record Odds (s : List ℕ) (c : ℕ) (rests : List ℕ) (left : ℕ) (cuts : List ℕ) (k : ℕ) : Type 0 where
-  pub sized : Sized s
-  pub within : c ≤ sum s
-  pub some : 0 < left
-  pub left-is : left ≡ still s c
-  pub rests-are : rests ≡ column (length s) (rest s c)
-  pub upto : k ≤ length s
-  pub places : length cuts ≡ length s
-  pub done : (j : ℕ) → j < k → getD cuts j 0 ≡ cutAt s c j
-  pub todo : (j : ℕ) → k ≤ j → j < length s → getD cuts j 0 ≡ whole s c j
+-- after k turns of the second loop: what k units were dealt, and the cuts of the others as they were
+pub record Deals (ranked keys : List ℕ) (left : ℕ) (cuts₀ cuts : List ℕ) (k : ℕ) : Type 0 where
+  pub upto : k ≤ length cuts₀
+  pub places : length cuts ≡ length cuts₀
+  pub done : (j : ℕ) → j < k → getD cuts j 0 ≡ getD cuts₀ j 0 + dealt ranked left (getD keys j 0)
+  pub todo : (j : ℕ) → k ≤ j → getD cuts j 0 ≡ getD cuts₀ j 0
 
-pub odds-start : {s d rests cuts : List ℕ} {t c left : ℕ} → Asked s t c d → 0 < left → left ≡ still s c →
-    cuts ≡ column (length s) (whole s c) → rests ≡ column (length s) (rest s c) → Odds s c rests left cuts 0
-odds-start {s} {c = c} a some l e r =
-    record {
-      sized = a .sized;
-      within = omega (arith, a);
-      some = some;
-      left-is = l;
-      rests-are = r;
-      upto = omega arith;
-      places = ap length e ∙ column-length (whole s c) (length s);
-      done = λ j m. absurd (not-suc-le-zero m);
-      todo = λ j _ m. ap (λ (l : List ℕ). getD l j 0) e ∙ column-at (whole s c) (length s) j 0 m;
-    }
-
-module _ {s rests cuts : List ℕ} {c left k : ℕ} (h : Odds s c rests left cuts k) where
-  module _ (l : k < length s) where
-    -- a unit of remainder 0 is dealt no odd kWh, so that it need not be ranked
-    dealt-is : ltb 0 (getD rests k 0) && ltb (rankBy rests k) left ≡ ltb (rank (before s c) (length s) k) (still s c)
-    unfolding still
-    dealt-is =
-        rw (rankBy-is s c rests k (h .rests-are) l, h .rests-are, column-at (rest s c) (length s) k 0 l, h .left-is)
-        (go (decLt (rank (before s c) (length s) k) (still s c)))
+module _ {ranked keys cuts₀ cuts : List ℕ} {left k : ℕ} (h : Deals ranked keys left cuts₀ cuts k) where
+  module _ (l : k < length cuts₀) where
+    -- a unit without a remainder is dealt nothing
+    pub deals-plain : getD keys k 0 < 64 → Deals ranked keys left cuts₀ cuts (k + 1)
+    unfolding dealt
+    deals-plain low =
+        record {
+          upto = omega arith;
+          places = h .places;
+          done = λ j m. go j (decLt j k) m;
+          todo = λ j m. h .todo j (omega arith);
+        }
       where
-        go : Dec (rank (before s c) (length s) k < still s c) →
-            ltb 0 (rest s c k) && ltb (rank (before s c) (length s) k) (still s c) ≡ ltb (rank (before s c) (length s) k) (still s c)
-        go (yes m) = rw (lt-ltb 0 (rest s c k) (dealt-rest s c (omega arith) (h .within) k m))
-        go (no m) = rw (le-ltb (rank (before s c) (length s) k) (still s c) (omega arith)) (and-false (ltb 0 (rest s c k)))
+        go : (j : ℕ) → Dec (j < k) → j < k + 1 → getD cuts j 0 ≡ getD cuts₀ j 0 + dealt ranked left (getD keys j 0)
+        go j (yes m) _ = h .done j m
+        go j (no m) n =
+            let e : j ≡ k = omega arith in
+            rw e (rw (le-ltb 63 (getD keys k 0) (omega arith)) (omega (arith, h .todo k (le-refl k))))
 
-    pub odds-small : getD cuts k 0 ≤ 1000000
-    odds-small = omega (arith, h .todo k (le-refl k) l, whole-size s c (h .within) k, h .sized .small k)
-
-    pub odds-more : {b : Bool} → b ≡ (ltb 0 (getD rests k 0) && ltb (rankBy rests k) left) →
-        Odds s c rests left (set cuts k (getD cuts k 0 + bit b)) (k + 1)
-    unfolding cutAt
-    odds-more {b} e =
+    pub deals-more : {b : Bool} → 64 ≤ getD keys k 0 → b ≡ ltb (above ranked (getD keys k 0)) left →
+        Deals ranked keys left cuts₀ (set cuts k (getD cuts k 0 + bit b)) (k + 1)
+    unfolding dealt
+    deals-more {b} high e =
         let v : ℕ = getD cuts k 0 + bit b in
         record {
-          sized = h .sized;
-          within = h .within;
-          some = h .some;
-          left-is = h .left-is;
-          rests-are = h .rests-are;
           upto = omega arith;
           places = length-set cuts k v ∙ h .places;
-          done = set-more (cutAt s c) 0 cuts k v (omega arith) (omega (arith, h .todo k (le-refl k) l, ap bit (e ∙ dealt-is))) (h .done);
-          todo = λ j m n. getD-set-other cuts k j v 0 (omega arith) ∙ h .todo j (omega arith) n;
+          done =
+              set-more (λ (j : ℕ). getD cuts₀ j 0 + dealt ranked left (getD keys j 0)) 0 cuts k v (omega arith)
+              (rw (lt-ltb 63 (getD keys k 0) (omega arith)) (ap₂ (λ (x : ℕ) (p : Bool). x + bit p) (h .todo k (le-refl k)) e)) (h .done);
+          todo = λ j m. getD-set-other cuts k j v 0 (omega arith) ∙ h .todo j (omega arith);
         }
 
-  pub odds-end : length s ≤ k → cuts ≡ cutsOf s c
-  unfolding cutsOf
-  odds-end l = is-column (cutAt s c) 0 (length s) cuts (h .places) (λ i m. h .done i (omega arith))
+  pub deals-end : length cuts₀ ≤ k → cuts ≡ column (length cuts₀) (λ (j : ℕ). getD cuts₀ j 0 + dealt ranked left (getD keys j 0))
+  deals-end l = is-column (λ (j : ℕ). getD cuts₀ j 0 + dealt ranked left (getD keys j 0)) 0 (length cuts₀) cuts (h .places) (λ j m. h .done j (omega arith))
+
+-- what `cut_wholes` leaves may be dealt from, and then the cuts are the rule's
+module _ {s d cuts keys ranked : List ℕ} {t c left units : ℕ} (a : Asked s t c d) (ranked₀ : List ℕ) (h : WholesDone s c ranked₀ cuts keys ranked left units) where
+  ranked-is : take units ranked ≡ rankedOf (key s c) (length s)
+  ranked-is = rw (h .4) (take-at (rankedOf (key s c) (length s)) (drop units ranked₀) units (sym (h .1)))
+
+  pub ranked-inside : units ≤ length ranked
+  ranked-inside = omega (arith, h .1, ap length (h .4) ∙ length-append (rankedOf (key s c) (length s)) (drop units ranked₀))
+
+  pub may-deal : (length (take units ranked) ≤ 64) × (length keys ≡ length cuts) × ((k : ℕ) → getD cuts k 0 ≤ 1000000)
+  may-deal = (
+    rw ranked-is (omega (arith, a .sized .few, ranked-fits (key s c) (length s))),
+    rw (h .2, h .3) (column-length (key s c) (length s) ∙ sym (column-length (whole s c) (length s))),
+    λ k. rw (h .2) (small k (decLt k (length s))),
+  )
+    where
+      small : (k : ℕ) → Dec (k < length s) → getD (column (length s) (whole s c)) k 0 ≤ 1000000
+      small k (yes l) = omega (arith, column-at (whole s c) (length s) k 0 l, whole-size s c (omega (arith, a)) k, a .sized .small k)
+      small k (no l) = omega (arith, column-past (whole s c) (length s) k 0 (omega arith))
+
+  pub all-dealt : column (length cuts) (λ (k : ℕ). getD cuts k 0 + dealt (take units ranked) left (getD keys k 0)) ≡ cutsOf s c
+  unfolding cutsOf cutAt
+  all-dealt =
+      rw (ranked-is, h .0, h .2, h .3, column-length (whole s c) (length s))
+      (column-ext _ (cutAt s c) (length s)
+      (λ i l. rw (column-at (whole s c) (length s) i 0 l, column-at (key s c) (length s) i 0 l)
+      (ap (λ (x : ℕ). whole s c i + x) (dealt-is s c (a .sized .few) i l (omega (arith, a))))))
 
 -- with nothing still to cut the whole parts are the cuts
-pub odds-none : (s : List ℕ) (c left : ℕ) → left ≡ still s c → left ≡ 0 → column (length s) (whole s c) ≡ cutsOf s c
+pub none-left : (s : List ℕ) (c left : ℕ) → left ≡ still s c → left ≡ 0 → column (length s) (whole s c) ≡ cutsOf s c
 unfolding cutsOf cutAt
-odds-none s c left l z =
+none-left s c left l z =
     column-ext (whole s c) (cutAt s c) (length s)
     (λ i _. omega (arith, ap bit (le-ltb (rank (before s c) (length s) i) (still s c) (omega arith))))

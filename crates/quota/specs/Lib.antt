@@ -1,2 +1,3 @@
 -- The pro-quota cut.
 pub mod Quota
+pub mod Keys

@@ -1,12 +1,12 @@
 // The pro-quota cut: one cut shared over the units of a class, in whole kWh.
-ghost use mathlib.Core.Bool.{_&&_};
+ghost use mathlib.Core.List.{_++_};
 ghost use mathlib.Core.Path.{_≡_};
-ghost use Prim.Native.Nat.{ℕ, _*_, _/_, _%_, _≤_, _<_};
-ghost use lib.Dec.{ltb};
-ghost use lib.ListN.{length, getD};
+ghost use Prim.Native.Nat.{ℕ, _+_, _*_, _/_, _%_, _≤_};
+ghost use lib.ListN.{length, getD, drop};
 ghost use Rattle.numbers.specs.Column.{column};
-ghost use Rattle.numbers.specs.Sum.{sum, count};
-ghost use Rattle.quota.specs.Quota.{whole, rest, ahead, still, cutsOf, Sized, Asked};
+ghost use Rattle.numbers.specs.Sum.{sum};
+ghost use Rattle.quota.specs.Quota.{whole, still, cutsOf, Sized, Asked};
+ghost use Rattle.quota.specs.Keys.{key, rankedOf, above, dealt};
 
 // The sum of the sizes.
 pub fn total(sizes: &[u32]) -> u32
@@ -43,68 +43,86 @@ fn share_of(c: u32, n: u32, t: u32) -> Share
     }
 }
 
-// How many of the remainders are above x.
-fn above(rests: &[u32], x: u32) -> u32
-    requires { ⌜ length (now rests) ≤ 64 ⌝ }
-    ensures { λ r. ⌜ r ≡ count (length (now (rests .entry))) (λ (j : ℕ). ltb x (getD (now (rests .entry)) j 0)) ⌝ }
+// How many of the keys are above x.
+fn above(keys: &[u32], x: u32) -> u32
+    requires { ⌜ length (now keys) ≤ 64 ⌝ }
+    ensures { λ r. ⌜ r ≡ above (now (keys .entry)) x ⌝ }
 {
     let mut r = 0;
     let mut j = 0;
-    while j < rests.len() {
-        r += (x < rests[j]) as u32;
+    while j < keys.len() {
+        r += (x < keys[j]) as u32;
         j += 1;
     }
     r
 }
 
-// Whether unit i is dealt one of the kWh left: it has a remainder, and fewer units than that come before it.
-fn is_dealt(rests: &[u32], i: usize, left: u32) -> bool
-    requires { ⌜ (i < length (now rests)) × (length (now rests) ≤ 64) ⌝ }
-    ensures { λ r. ⌜ r ≡ (ltb 0 (getD (now (rests .entry)) i 0)
-        && ltb (count (length (now (rests .entry))) (λ (j : ℕ). ahead (getD (now (rests .entry)) i 0) (getD (now (rests .entry)) j 0) i j)) left) ⌝ }
-{
-    let x = rests[i];
-    if x == 0 {
-        return false;
-    }
-    // Above `under` lie the remainders of x and more.
-    let under = x - 1;
-    above(&rests[..i], under) + above(&rests[i..], x) < left
+// What the whole parts leave: the kWh still to cut, and the number of units with a remainder.
+struct Odd {
+    left: u32,
+    units: usize,
 }
 
-// Cuts each unit by the whole part of its share, keeps the remainders and gives the kWh still to cut.
-fn cut_wholes(sizes: &[u32], t: u32, c: u32, cuts: &mut [u32], rests: &mut [u32]) -> u32
-    requires { ⌜ Asked (now sizes) t c (now cuts) × (length (now rests) ≡ length (now sizes)) ⌝ }
-    ensures { λ r. ⌜ (r ≡ still (now (sizes .entry)) c)
+// Cuts each unit by the whole part of its share, keeps the keys, and once more, side by side, those of units with a remainder.
+fn cut_wholes(
+    sizes: &[u32],
+    t: u32,
+    c: u32,
+    cuts: &mut [u32],
+    keys: &mut [u32],
+    ranked: &mut [u32],
+) -> Odd
+    requires { ⌜ Asked (now sizes) t c (now cuts) × (length (now keys) ≡ length (now sizes)) × (length (now ranked) ≡ length (now sizes)) ⌝ }
+    ensures { λ r. ⌜ (r .left ≡ still (now (sizes .entry)) c)
+        × (r .units ≡ length (rankedOf (key (now (sizes .entry)) c) (length (now (sizes .entry)))))
         × (now (cuts .exit) ≡ column (length (now (sizes .entry))) (whole (now (sizes .entry)) c))
-        × (now (rests .exit) ≡ column (length (now (sizes .entry))) (rest (now (sizes .entry)) c)) ⌝ }
+        × (now (keys .exit) ≡ column (length (now (sizes .entry))) (key (now (sizes .entry)) c))
+        × (now (ranked .exit) ≡ rankedOf (key (now (sizes .entry)) c) (length (now (sizes .entry))) ++ drop (r .units) (now (ranked .entry))) ⌝ }
 {
     let mut left = c;
+    let mut units = 0;
     let mut k = 0;
     while k < sizes.len() {
         let share = share_of(c, sizes[k], t);
         cuts[k] = share.whole;
-        rests[k] = share.rest;
         left -= share.whole;
+        let key = share.rest * 64 + (63 - k as u32);
+        keys[k] = key;
+        if 0 < share.rest {
+            ranked[units] = key;
+            units += 1;
+        }
         k += 1;
     }
-    left
+    Odd { left, units }
 }
 
-// The cut, with a place for each remainder.
-fn cut_over(sizes: &[u32], t: u32, c: u32, cuts: &mut [u32], rests: &mut [u32])
-    requires { ⌜ Asked (now sizes) t c (now cuts) × (length (now rests) ≡ length (now sizes)) ⌝ }
-    ensures { λ _. ⌜ now (cuts .exit) ≡ cutsOf (now (sizes .entry)) c ⌝ }
+// Deals the kWh left, one each, to the units with a remainder whose keys have fewer than that above them.
+fn deal(ranked: &[u32], left: u32, keys: &[u32], cuts: &mut [u32])
+    requires { ⌜ (length (now ranked) ≤ 64) × (length (now keys) ≡ length (now cuts)) × ((k : ℕ) → getD (now cuts) k 0 ≤ 1000000) ⌝ }
+    ensures { λ _. ⌜ now (cuts .exit) ≡ column (length (now (cuts .entry)))
+        (λ (k : ℕ). getD (now (cuts .entry)) k 0 + dealt (now (ranked .entry)) left (getD (now (keys .entry)) k 0)) ⌝ }
 {
-    let left = cut_wholes(sizes, t, c, cuts, rests);
-    if left == 0 {
-        return;
-    }
     let mut k = 0;
-    while k < sizes.len() {
-        cuts[k] += is_dealt(rests, k, left) as u32;
+    while k < keys.len() {
+        let key = keys[k];
+        if 64 <= key {
+            cuts[k] += (above(ranked, key) < left) as u32;
+        }
         k += 1;
     }
+}
+
+// The cut, with two columns for the keys.
+fn cut_over(sizes: &[u32], t: u32, c: u32, cuts: &mut [u32], keys: &mut [u32], ranked: &mut [u32])
+    requires { ⌜ Asked (now sizes) t c (now cuts) × (length (now keys) ≡ length (now sizes)) × (length (now ranked) ≡ length (now sizes)) ⌝ }
+    ensures { λ _. ⌜ now (cuts .exit) ≡ cutsOf (now (sizes .entry)) c ⌝ }
+{
+    let odd = cut_wholes(sizes, t, c, cuts, keys, ranked);
+    if odd.left == 0 {
+        return;
+    }
+    deal(&ranked[..odd.units], odd.left, keys, cuts);
 }
 
 // The pro-quota cut of c kWh over the sizes, whose total is t, each unit's into its place of cuts.
@@ -112,7 +130,15 @@ pub fn cut(sizes: &[u32], t: u32, c: u32, cuts: &mut [u32])
     requires { ⌜ Asked (now sizes) t c (now cuts) ⌝ }
     ensures { λ _. ⌜ now (cuts .exit) ≡ cutsOf (now (sizes .entry)) c ⌝ }
 {
-    let mut rests = [0u32; 64];
     let n = sizes.len();
-    cut_over(sizes, t, c, cuts, &mut rests[..n]);
+    // Most groups are small, and columns of 8 are sooner cleared than columns of 64.
+    if n <= 8 {
+        let mut keys = [0u32; 8];
+        let mut ranked = [0u32; 8];
+        cut_over(sizes, t, c, cuts, &mut keys[..n], &mut ranked[..n]);
+        return;
+    }
+    let mut keys = [0u32; 64];
+    let mut ranked = [0u32; 64];
+    cut_over(sizes, t, c, cuts, &mut keys[..n], &mut ranked[..n]);
 }

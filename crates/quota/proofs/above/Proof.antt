@@ -1,4 +1,4 @@
--- `above` meets its contract: after j turns r counts those of the first j remainders that are above x.
+-- `above` meets its contract: after j turns r counts those of the first j keys that are above x.
 use Prim.Native.Nat.{ℕ, _-_, _≤_}
 use mathlib.Core.Path.{_≡_, ap}
 use native.Mathlib.Omega.{arith}
@@ -7,14 +7,15 @@ use lib.Dec.{ltb}
 use lib.ListN.{length, getD}
 use Rattle.numbers.specs.Sum.{sumTo, count}
 use Rattle.numbers.proofs.Sums.{bit-one, count-one}
+use Rattle.quota.specs.Keys.{above}
 use Rattle.quota.proofs.above.Statement.{statement}
 use Rattle.quota.proofs.above.Tie as tie
 
 abbrev Inv-loop : tie.InvT-loop
-Inv-loop rests x r₀ j₀ r j = (j ≤ length rests) × (r ≡ count j (λ (k : ℕ). ltb x (getD rests k 0))) × (r ≤ j)
+Inv-loop keys x r₀ j₀ r j = (j ≤ length keys) × (r ≡ count j (λ (k : ℕ). ltb x (getD keys k 0))) × (r ≤ j)
 
 abbrev μ-loop : tie.MeasureT-loop
-μ-loop rests x r₀ j₀ r j = length rests - j
+μ-loop keys x r₀ j₀ r j = length keys - j
 
 loop-holds : tie.Need-loop-holds Inv-loop μ-loop
 unfolding count sumTo
@@ -32,7 +33,7 @@ cast-r c = search needs
 add-r : tie.Need-add-r Inv-loop μ-loop
 add-r c =
     let a = c .before .before .before .args in
-    omega (arith, bit-one (ltb (a .x) (getD (a .rests .now) (c .before .before .loop .j) 0)))
+    omega (arith, bit-one (ltb (a .x) (getD (a .keys .now) (c .before .before .loop .j) 0)))
 
 add-j : tie.Need-add-j Inv-loop μ-loop
 add-j c = search needs
@@ -44,13 +45,14 @@ loop-again : tie.Need-loop-again Inv-loop μ-loop
 loop-again c =
     let a = c .before .before .before .args in
     let j = c .before .before .loop .j in
-    omega (arith, bit-one (ltb (a .x) (getD (a .rests .now) j 0)), count-one j (λ (k : ℕ). ltb (a .x) (getD (a .rests .now) k 0)))
+    omega (arith, bit-one (ltb (a .x) (getD (a .keys .now) j 0)), count-one j (λ (k : ℕ). ltb (a .x) (getD (a .keys .now) k 0)))
 
 returns : tie.Need-returns Inv-loop μ-loop
+unfolding above
 returns c =
     let a = c .before .before .args in
-    let e : c .before .loop .j ≡ length (a .rests .now) = omega arith in
-    omega (arith, ap (λ (n : ℕ). count n (λ (k : ℕ). ltb (a .x) (getD (a .rests .now) k 0))) e)
+    let e : c .before .loop .j ≡ length (a .keys .now) = omega arith in
+    omega (arith, ap (λ (n : ℕ). count n (λ (k : ℕ). ltb (a .x) (getD (a .keys .now) k 0))) e)
 
 pub above-spec : {M : Type 1} → statement M
 above-spec =
