@@ -1,8 +1,11 @@
 -- Laws of the day.
 pub mod Lengths
-pub mod Passing
+pub mod Filling
 pub mod Read
+pub mod Units
+pub mod Passing
 pub mod Taking
+pub mod UnitsTaken
 pub mod ByKind
 pub mod Outcomes
 pub mod ReadBack

@@ -1,7 +1,7 @@
 -- What holds of a block that passed its checks: its values are the layouts', and each is in its range.
 use Prim.Native.Nat.{ℕ, _+_, _*_, _≤_, _<_}
-use mathlib.Core.Path.{_≡_, refl, sym, ap, _∙_}
-use mathlib.Core.Bool.{Bool, true}
+use mathlib.Core.Path.{_≡_, _∙_}
+use mathlib.Core.Bool.{true}
 use mathlib.Core.List.{List}
 use native.Mathlib.Omega.{arith}
 use native.Mathlib.Decide.{decLt}
@@ -11,6 +11,7 @@ use lib.IntN.{ℤ, pos}
 use lib.ListN.{length, getD}
 use Rattle.numbers.specs.Column.{column, at}
 use Rattle.numbers.proofs.Integers.{zarith}
+use Rattle.group.specs.Asked.{Level}
 use Rattle.group.proofs.Accepting.{Sound, Accepted}
 use Rattle.numbers.proofs.Choices.{and-both}
 use Rattle.numbers.proofs.Columns.{column-length, column-at, column-past}
@@ -21,21 +22,20 @@ use Rattle.records.specs.declared.key.Last.{Last}
 use Rattle.records.specs.declared.group.GroupRecord.{GroupRecord}
 use Rattle.records.specs.Layouts.{groupAt}
 use Rattle.records.specs.Reading.{follows, groupFieldsOf, unitsOf, unitIn}
-use Rattle.records.specs.Decoding.{unitN0, classesIn}
-use Rattle.records.proofs.Accepted.{unit-in, block-end, holds, n0-all, pc-all, step-down-all, step-up-all}
+use Rattle.records.specs.Decoding.{unitN0}
+use Rattle.records.proofs.Accepted.{unit-in, block-end}
 use Rattle.day.specs.declared.value.Day.{Day}
 use Rattle.day.specs.declared.check.Block.{Block}
 use Rattle.day.specs.Checking.{blockOf, blockFieldsOf}
-use Rattle.day.specs.Blocks.{groupIn, blockKey, blockCount, blockGroup, Passed}
-use Rattle.day.proofs.Passing.{level-in}
+use Rattle.day.specs.Blocks.{groupIn, blockKey, blockCount, blockGroup}
 
 -- a group record whose fields passed
-record GroupPassed (s : List ℕ) (last : Last) (g : GroupRecord) : Type 0 where
+pub record GroupPassed (s : List ℕ) (last : Last) (g : GroupRecord) : Type 0 where
   pub value : g ≡ groupAt s 0
   pub most : blockCount s ≤ 64
   pub after : follows last (blockKey s) ≡ true
 
-group-passed : (s : List ℕ) (d : DayRecord) (last : Last) {g : GroupRecord} → groupFieldsOf s d last ≡ is g → GroupPassed s last g
+pub group-passed : (s : List ℕ) (d : DayRecord) (last : Last) {g : GroupRecord} → groupFieldsOf s d last ≡ is g → GroupPassed s last g
 unfolding groupFieldsOf
 group-passed s d last {g} e =
     let q = need-is _ _ _ _ e in
@@ -51,34 +51,23 @@ group-passed s d last {g} e =
 pub record Read (day : Day) (s : List ℕ) (block : Block) : Type 0 where
   pub value : block ≡ blockOf (groupAt s 0) (10 + 26 * blockCount s)
   pub after : follows (day .last) (blockKey s) ≡ true
-  pub passed : 10 ≤ length s → Passed s (blockCount s)
+  pub few : blockCount s ≤ 64
   pub accepted : Accepted (blockGroup s)
 
+-- the columns of a block are of one length
+level-in : (s : List ℕ) (count : ℕ) → Level (groupIn s count)
+level-in s count =
+    let n : length (groupIn s count .n0) ≡ count = column-length _ count in
+    record {
+      positions = rw (n, column-length _ count);
+      downs = rw (n, column-length _ count);
+      ups = rw (n, column-length _ count);
+      classes = rw (n, column-length _ count);
+    }
+
 module _ (s : List ℕ) (run limit count : ℕ) {end : ℕ} (few : count ≤ 64) (e : unitsOf s 10 0 run limit count ≡ is end) where
-  class-known : (i : ℕ) → getD (classesIn s count) i 0 ≤ 1
-  class-known i = go (decLt i count)
-    where
-      class : ℕ → ℕ
-      class j = unitIn s j .class
-
-      go : Dec (i < count) → getD (classesIn s count) i 0 ≤ 1
-      go (yes l) = rw (column-at class count i 0 l) (unit-in s run limit count e i l .class)
-      go (no l) = rw (column-past class count i 0 (omega arith)) (omega arith)
-
-  units-passed : 10 ≤ length s → Passed s count
-  units-passed h =
-      record {
-        few = few;
-        holds = holds s run limit count e h;
-        known = class-known;
-        n0-small = n0-all s run limit count e;
-        pc-small = pc-all s run limit count e;
-        down-small = step-down-all s run limit count e;
-        up-small = step-up-all s run limit count e;
-      }
-
   -- as a group, each unit is sound, and past the last there is nothing to refuse
-  units-accepted : Accepted (groupIn s count)
+  pub units-accepted : Accepted (groupIn s count)
   units-accepted =
       let n : length (groupIn s count .n0) ≡ count = column-length _ count in
       record { few = rw n few; level = level-in s count; sound = λ i. go i (decLt i count) }
@@ -118,7 +107,7 @@ read-by day s g end p u v =
     record {
       value = v ∙ rw (p .value, block-end s run limit (blockCount s) k);
       after = p .after;
-      passed = units-passed s run limit (blockCount s) (p .most) k;
+      few = p .most;
       accepted = units-accepted s run limit (blockCount s) (p .most) k;
     }
 

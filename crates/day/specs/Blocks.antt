@@ -3,19 +3,29 @@ use Prim.Native.Nat.{ℕ, _≤_}
 use mathlib.Core.Path.{_≡_}
 use mathlib.Core.Bool.{Bool, false}
 use mathlib.Core.List.{List}
+use lib.Dec.{leb}
 use lib.IntN.{ℤ}
 use lib.ListN.{length, getD}
-use Rattle.numbers.specs.Column.{column, at, AllWithin}
+use Rattle.numbers.specs.Bytes.{laidAt}
+use Rattle.numbers.specs.Column.{column, at}
+use Rattle.terms.specs.Reply.{Reply, is, refused, need, next}
+use Rattle.terms.specs.Refusals.{answer}
+use Rattle.terms.specs.declared.refusal.Answer.{Answer}
 use Rattle.group.specs.Steps.{reasonOf}
-use Rattle.group.specs.Group.{Group, n1, n2, n3}
+use Rattle.group.specs.Group.{Group, units, n1, n2, n3}
 use Rattle.group.specs.Columns.{columns, sumsOf}
+use Rattle.group.specs.Asked.{Judged}
 use Rattle.group.specs.declared.judge.Sums.{Sums}
+use Rattle.records.specs.declared.group.GroupRecord.{GroupRecord}
 use Rattle.records.specs.declared.key.Key.{Key}
 use Rattle.records.specs.declared.group_result.GroupResult.{GroupResult}
-use Rattle.records.specs.Layouts.{groupAt}
-use Rattle.records.specs.Reading.{keyOf}
-use Rattle.records.specs.Decoding.{numbersIn, classesIn, implicitsIn, n0In, pcIn, stepDownIn, stepUpIn, Holds, MarkRoom, AmountRoom}
+use Rattle.records.specs.Layouts.{groupLength, groupAt}
+use Rattle.records.specs.Reading.{keyOf, unitsOf}
+use Rattle.records.specs.Decoding.{numbersIn, classesIn, implicitsIn, n0In, pcIn, stepDownIn, stepUpIn, Decoded}
 use Rattle.writers.specs.Results.{Results, results, resultLength, resultBytes}
+use Rattle.day.specs.declared.check.Block.{Block}
+use Rattle.day.specs.declared.check.BlockAnswer.{BlockAnswer}
+use Rattle.day.specs.Checking.{blockOf, blockReply}
 
 -- the first so many units of a block as the columns of a group
 abbrev pub groupIn : List ℕ → ℕ → Group
@@ -58,25 +68,29 @@ blockCount s = groupAt s 0 .count
 abbrev pub blockGroup : List ℕ → Group
 blockGroup s = groupIn s (blockCount s)
 
--- the result of a block of so many units, and of a block
+-- the result of a group of so many units, of their numbers and of which are implicit; that of a block of so many units, and of a block
+abbrev pub resultBy : Key → ℕ → List ℕ → List Bool → Group → List ℕ
+resultBy key count number implicit g = resultBytes (groupResult key count (sumsOf g)) (unitResults number implicit g)
+
 unfoldable pub resultIn : List ℕ → Key → ℕ → List ℕ
-resultIn s key count =
-    resultBytes (groupResult key count (sumsOf (groupIn s count))) (unitResults (numbersIn s count) (implicitsIn s count) (groupIn s count))
+resultIn s key count = resultBy key count (numbersIn s count) (implicitsIn s count) (groupIn s count)
 
 abbrev pub blockResult : List ℕ → List ℕ
 blockResult s = resultIn s (blockKey s) (blockCount s)
 
--- ---- what the inner functions ask for
--- so many units passed their checks
-pub record Passed (s : List ℕ) (count : ℕ) : Type 0 where
-  pub few : count ≤ 64
-  pub holds : Holds s count
-  pub known : (i : ℕ) → getD (classesIn s count) i 0 ≤ 1
-  pub n0-small : AllWithin 1000000 (n0In s count)
-  pub pc-small : AllWithin 1000000 (pcIn s count)
-  pub down-small : AllWithin 1000000 (stepDownIn s count)
-  pub up-small : AllWithin 1000000 (stepUpIn s count)
+-- the units of a block whose group record passed, and last 12
+unfoldable pub unitsTaken : List ℕ → GroupRecord → ℕ → ℕ → ℕ → Reply Block
+unitsTaken s group run limit room =
+    next (unitsOf s groupLength 0 run limit (group .count)) λ end.
+    need (leb (resultLength (group .count)) room) 12 0
+    (is (blockOf group end))
 
+-- a room after that: the result at its front, or the room as it was
+unfoldable pub laidAfter : Reply Block → List ℕ → List ℕ → List ℕ
+laidAfter (is block) bytes room = laidAt room 0 bytes
+laidAfter (refused number place) bytes room = room
+
+-- ---- what the inner functions ask for, and what they leave
 -- the eight columns that reasons are told from, and theirs, are of one length
 pub record Told (implicit : List Bool) (n0 n1 n2 n3 stepDown stepUp : List ℤ) (reason : List ℕ) : Type 0 where
   pub implicits : length implicit ≡ length n0
@@ -87,31 +101,45 @@ pub record Told (implicit : List Bool) (n0 n1 n2 n3 stepDown stepUp : List ℤ) 
   pub ups : length stepUp ≡ length n0
   pub reasons : length reason ≡ length n0
 
--- columns of exactly so many entries
-pub record StepRoom (count : ℕ) (n1 n2 n3 : List ℤ) : Type 0 where
+-- columns of exactly so many entries, of which a group has at most 64
+pub record UnitRoom (count : ℕ) (number class : List ℕ) (implicit : List Bool) (n0 pc stepDown stepUp : List ℤ) : Type 0 where
+  pub few : count ≤ 64
+  pub numbers : length number ≡ count
+  pub classes : length class ≡ count
+  pub implicits : length implicit ≡ count
+  pub nominations : length n0 ≡ count
+  pub positions : length pc ≡ count
+  pub downs : length stepDown ≡ count
+  pub ups : length stepUp ≡ count
+
+pub record StepRoom (count : ℕ) (n1 n2 n3 : List ℤ) (reason : List ℕ) : Type 0 where
   pub firsts : length n1 ≡ count
   pub seconds : length n2 ≡ count
   pub thirds : length n3 ≡ count
+  pub reasons : length reason ≡ count
 
-pub record Working (count : ℕ) (number class : List ℕ) (implicit : List Bool) (n0 pc stepDown stepUp n1 n2 n3 : List ℤ) : Type 0 where
-  pub marks : MarkRoom count number class implicit
-  pub amounts : AmountRoom count n0 pc stepDown stepUp
-  pub steps : StepRoom count n1 n2 n3
+pub record Working
+    (count : ℕ) (number class : List ℕ) (implicit : List Bool) (n0 pc stepDown stepUp n1 n2 n3 : List ℤ) (reason : List ℕ) : Type 0 where
+  pub values : UnitRoom count number class implicit n0 pc stepDown stepUp
+  pub steps : StepRoom count n1 n2 n3 reason
 
--- a block's columns, and n1, n2 and n3, after the three steps
-pub record Stepped
-    (s : List ℕ) (count : ℕ) (sums : Sums) (number : List ℕ) (implicit : List Bool) (n0 stepDown stepUp x1 x2 x3 : List ℤ) : Type 0 where
-  pub replied : sums ≡ sumsOf (groupIn s count)
-  pub numbers : number ≡ numbersIn s count
-  pub implicits : implicit ≡ implicitsIn s count
-  pub nominations : n0 ≡ n0In s count
-  pub downs : stepDown ≡ stepDownIn s count
-  pub ups : stepUp ≡ stepUpIn s count
-  pub clamped : x1 ≡ n1 (groupIn s count)
-  pub cut : x2 ≡ n2 (groupIn s count)
-  pub stretched : x3 ≡ n3 (groupIn s count)
+-- the units of a block are read, and where none is refused the columns are theirs
+pub record UnitsRead
+    (s : List ℕ) (count run limit : ℕ) (r : Answer) (number class : List ℕ) (implicit : List Bool) (n0 pc stepDown stepUp : List ℤ) : Type 0 where
+  pub replied : answer r ≡ unitsOf s groupLength 0 run limit count
+  pub decoded : (end : ℕ) → answer r ≡ is end → Decoded s count number class implicit n0 pc stepDown stepUp
 
--- a block that passed, and room for its result
-pub record Writable (s : List ℕ) (count : ℕ) (room : List ℕ) : Type 0 where
-  pub passed : Passed s count
+-- a group of so many units that may be judged, and room for its result
+pub record Writable
+    (count : ℕ) (number : List ℕ) (implicit : List Bool) (g : Group) (n1 n2 n3 : List ℤ) (reason room : List ℕ) : Type 0 where
+  pub judged : Judged g n1 n2 n3
+  pub counted : units g ≡ count
+  pub numbers : length number ≡ count
+  pub implicits : length implicit ≡ count
+  pub reasons : length reason ≡ count
   pub enough : resultLength count ≤ length room
+
+-- the answer and the room are the right ones
+pub record Taking (right : Reply Block) (bytes entry : List ℕ) (r : BlockAnswer) (exit : List ℕ) : Type 0 where
+  pub replied : blockReply r ≡ right
+  pub room : exit ≡ laidAfter right bytes entry

@@ -27,7 +27,7 @@ pub struct Block {
 }
 
 impl Block {
-    fn of(group: GroupRecord, used: usize) -> Block
+    pub fn of(group: GroupRecord, used: usize) -> Block
         ensures { λ r. ⌜ r ≡ blockOf group used ⌝ }
     {
         Block {

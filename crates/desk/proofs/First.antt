@@ -49,7 +49,7 @@ module _ (s : List ℕ) {end : ℕ} (h : headOf s 0 2 10 ≡ is end) where
   pub short : (d : DayRecord) (room : ℕ) → Short (offerOf (opened d) s room)
   short d room step e =
       let t = taken-block (opened d) s room e kind in
-      let few = read (opened d) s (t .fields) .passed (t .long) .few in
+      let few = read (opened d) s (t .fields) .few in
       rw (t .value) (omega arith)
 
   head-in : (d : DayRecord) (room : ℕ) → firstOf d s room ≡ offerOf (opened d) s room

@@ -7,14 +7,11 @@ use mathlib.Core.Bool.{true}
 use mathlib.Core.List.{List}
 use lib.Dec.{eqb}
 use lib.IntN.{ℤ, pos, negℤ}
-use lib.ListN.{length}
 use lib.Signed.{leZ}
 use borrow.Author.Tests.{leb-true}
 use Rattle.numbers.specs.Range.{Within}
 use Rattle.numbers.specs.Choice.{pick}
-use Rattle.numbers.specs.Column.{AllWithin}
 use Rattle.numbers.proofs.Integers.{zarith, neg, one-side, by-test}
-use Rattle.numbers.proofs.Columns.{column-within-below}
 use Rattle.terms.specs.Reply.{is}
 use Rattle.terms.specs.Quantities.{consideredOf}
 use Rattle.terms.specs.Checks.{inRange, amountChecks}
@@ -24,9 +21,8 @@ use Rattle.terms.proofs.Passing.{passes}
 use Rattle.records.specs.declared.unit.UnitRecord.{UnitRecord}
 use Rattle.records.specs.Layouts.{unitAt}
 use Rattle.records.specs.Reading.{unitFieldsOf, unitOf, unitsOf, unitFaults, valueFaults, markFaults, unitIn}
-use Rattle.records.specs.Decoding.{unitN0, n0In, pcIn, stepDownIn, stepUpIn, Holds}
+use Rattle.records.specs.Decoding.{unitN0}
 use Rattle.records.proofs.Checks.{both, also-fine, passed-is}
-use Rattle.records.proofs.Turns.{unit-long}
 
 -- a quantity in its range
 pub range-within : (z : ℤ) → inRange z ≡ true → Within 1000000 z
@@ -95,19 +91,17 @@ unit-sound s at floor run limit e = sound _ floor (also-fine _ _ (unit-is s at f
 
 pub record Accepted (s : List ℕ) (at count end : ℕ) : Type 0 where
   pub ends : end ≡ at + 26 * count
-  pub long : at ≤ length s → end ≤ length s
   pub each : (i : ℕ) → i < count → Sound (unitAt s (at + 26 * i))
 
 pub accepted : (s : List ℕ) (at floor run limit count : ℕ) {end : ℕ} → unitsOf s at floor run limit count ≡ is end → Accepted s at count end
 unfolding unitsOf
 accepted s at floor run limit zero {end} e =
     let h : at ≡ end = cc in
-    record { ends = omega arith; long = λ l. omega arith; each = λ i l. absurd (not-suc-le-zero l) }
+    record { ends = omega arith; each = λ i l. absurd (not-suc-le-zero l) }
 accepted s at floor run limit (suc count) {end} e =
     let a = next-is _ _ e in
-    let long = unit-long s at floor run limit (a .1 .0) in
     let rest = accepted s (at + 26) (a .0 .number + 1) run limit count (a .1 .1) in
-    record { ends = omega (arith, rest .ends); long = λ l. rest .long long; each = each (unit-sound s at floor run limit (a .1 .0)) (rest .each) }
+    record { ends = omega (arith, rest .ends); each = each (unit-sound s at floor run limit (a .1 .0)) (rest .each) }
   where
     each : Sound (unitAt s at) → ((i : ℕ) → i < count → Sound (unitAt s (at + 26 + 26 * i))) → (i : ℕ) → i < suc count → Sound (unitAt s (at + 26 * i))
     each first rest zero l =
@@ -117,27 +111,10 @@ accepted s at floor run limit (suc count) {end} e =
         let there : at + 26 * suc i ≡ at + 26 + 26 * i = omega arith in
         rw there (rest i (omega arith))
 
--- a block whose units were accepted, as columns
+-- a block whose units were accepted
 module _ (s : List ℕ) (run limit count : ℕ) {end : ℕ} (e : unitsOf s 10 0 run limit count ≡ is end) where
   pub unit-in : (i : ℕ) → i < count → Sound (unitIn s i)
   unit-in = accepted s 10 0 run limit count e .each
 
   pub block-end : end ≡ 10 + 26 * count
   block-end = accepted s 10 0 run limit count e .ends
-
-  pub holds : 10 ≤ length s → Holds s count
-  holds h =
-      let a = accepted s 10 0 run limit count e in
-      record { long = omega (arith, a .ends, a .long h); positions = λ i l. unit-in i l .pc }
-
-  pub n0-all : AllWithin 1000000 (n0In s count)
-  n0-all = column-within-below 1000000 _ count (λ i l. unit-in i l .n0)
-
-  pub pc-all : AllWithin 1000000 (pcIn s count)
-  pc-all = column-within-below 1000000 _ count (λ i l. unit-in i l .pc)
-
-  pub step-down-all : AllWithin 1000000 (stepDownIn s count)
-  step-down-all = column-within-below 1000000 _ count (λ i l. unit-in i l .step-down)
-
-  pub step-up-all : AllWithin 1000000 (stepUpIn s count)
-  step-up-all = column-within-below 1000000 _ count (λ i l. unit-in i l .step-up)

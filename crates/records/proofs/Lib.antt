@@ -3,7 +3,6 @@ pub mod Checks
 pub mod Fields
 pub mod Heads
 pub mod Turns
-pub mod Filling
 pub mod Accepted
 pub mod Unique
 pub mod Read

@@ -1,9 +1,7 @@
 -- Each call's contract leaves one answer: two answers with one reply are one answer.
 use Prim.Native.Nat.{ℕ}
 use mathlib.Core.Path.{_≡_, sym, ap, _∙_}
-use mathlib.Core.Bool.{Bool}
 use mathlib.Core.List.{List}
-use lib.IntN.{ℤ}
 use Rattle.terms.specs.Refusals.{answer}
 use Rattle.terms.specs.declared.refusal.Answer.{Answer}
 use Rattle.terms.proofs.Same.{same-refusal, same-answer}
@@ -19,7 +17,6 @@ use Rattle.records.specs.declared.units.UnitAnswer.{UnitAnswer}
 use Rattle.records.specs.declared.units.UnitAnswer.the-variants as U
 use Rattle.records.specs.Answers.{dayReply, groupReply, endReply, unitReply}
 use Rattle.records.specs.Reading.{headOf, dayOf, groupOf, endOf, unitOf, unitsOf}
-use Rattle.records.specs.Decoding.{Decoded}
 
 pub same-day : (a b : DayAnswer) → dayReply a ≡ dayReply b → a ≡ b
 same-day (D.Is x) (D.Is y) e = ap D.Is (cc)
@@ -63,25 +60,3 @@ module _ (s : List ℕ) where
 
   pub units-from-unique : (at run limit count : ℕ) (a b : Answer) → answer a ≡ unitsOf s at 0 run limit count → answer b ≡ unitsOf s at 0 run limit count → a ≡ b
   units-from-unique at run limit count a b p q = same-answer a b (p ∙ sym q)
-
-  -- of what decoding leaves in the lent columns
-  pub decode-unique : (count : ℕ) {number number′ class class′ : List ℕ} {implicit implicit′ : List Bool} {n0 n0′ pc pc′ down down′ up up′ : List ℤ}
-      → Decoded s count number class implicit n0 pc down up → Decoded s count number′ class′ implicit′ n0′ pc′ down′ up′
-      → (number ≡ number′) × ((class ≡ class′) × ((implicit ≡ implicit′) × ((n0 ≡ n0′) × ((pc ≡ pc′) × ((down ≡ down′) × (up ≡ up′))))))
-  decode-unique count a b =
-      let m = a .marks in
-      let k = b .marks in
-      let x = a .amounts in
-      let y = b .amounts in (
-        m .numbers ∙ sym (k .numbers),
-        (
-          m .classes ∙ sym (k .classes),
-          (
-            m .implicits ∙ sym (k .implicits),
-            (
-              x .nominations ∙ sym (y .nominations),
-              (x .positions ∙ sym (y .positions), (x .downs ∙ sym (y .downs), x .ups ∙ sym (y .ups))),
-            ),
-          ),
-        ),
-      )

@@ -1,7 +1,6 @@
 // House records: their types and layouts, and reading them.
 pub mod age;
 pub mod day;
-pub mod decode;
 pub mod end;
 pub mod faults;
 pub mod field;

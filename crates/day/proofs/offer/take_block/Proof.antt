@@ -1,21 +1,22 @@
--- `take_block` meets its contract, answer by answer: a refusal leaves the room, an acceptance lays the result.
+-- `take_block` meets its contract, answer by answer: the group record, and then what taking its units leaves.
 use mathlib.Core.Path.{sym, ap, _∙_}
-use borrow.Author.Tests.{lt-leb, le-leb}
 use borrow.Author.Needs.{needs}
 use denote.Ref.{now}
-use Rattle.terms.specs.Reply.{need, next}
-use Rattle.day.specs.Checking.{blockReply}
+use Rattle.terms.specs.Reply.{next}
+use Rattle.records.specs.Answers.{groupReply}
+use Rattle.day.specs.Checking.{blockFieldsOf}
 use Rattle.day.specs.Offers.{blockTaken}
-use Rattle.day.proofs.Read.{read}
-use Rattle.day.proofs.Taking.{refuses-room, takes-room, result-length}
+use Rattle.day.proofs.Read.{group-passed}
+use Rattle.day.proofs.Taking.{refuses-room}
+use Rattle.day.proofs.UnitsTaken.{offer-refused, offer-taken}
 use Rattle.day.proofs.offer.take_block.Tie as tie
 use Rattle.day.proofs.offer.take_block.Statement.{statement}
 
-block-fields-requires : tie.Need-block-fields-requires
-block-fields-requires c κs = search needs
+group-fields-requires : tie.Need-group-fields-requires
+group-fields-requires c κs = search needs
 
-enum-known-b : tie.Need-enum-known-b
-enum-known-b c = search needs
+enum-known-g : tie.Need-enum-known-g
+enum-known-g c = search needs
 
 enum-told : tie.Need-enum-told
 enum-told c = search needs
@@ -24,48 +25,62 @@ refusal-requires : tie.Need-refusal-requires
 refusal-requires c κs = search needs
 
 returns : tie.Need-returns
-unfolding blockTaken next need
-returns c = refuses-room _ _ _ _ (rw (c .refusal .ensures, ← (c .before .before .before .block-fields .ensures), c .before .enum-told .given .1))
+unfolding blockTaken blockFieldsOf next
+returns c = refuses-room _ _ _ _ (rw (c .refusal .ensures, ← (c .before .before .before .group-fields .ensures), c .before .enum-told .given .1))
 
-returns-2 : tie.Need-returns-2
-unfolding blockTaken next need
-returns-2 c =
-    let p = sym (c .before .before .before .before .before .block-fields .ensures) ∙ ap blockReply (c .before .before .before .b .given .1) in
-    refuses-room _ _ _ _ (simp (p, lt-leb _ _ (c .if1 .taken)))
+take-units-requires : tie.Need-take-units-requires
+take-units-requires c κs =
+    let x = c .before .before .before .before .before .before .before .before .args in
+    let p = group-passed (now (x .s)) (x .day .«record») (x .day .last) (sym (c .before .before .before .before .group-fields .ensures) ∙ ap groupReply (c .before .before .g .given .1)) in
+    rw (p .value) (p .most)
 
-write-result-requires : tie.Need-write-result-requires
-write-result-requires c κs =
-    let s = c .before .before .before .before .before .before .before .before .before .before in
-    let r = read (s .args .day) (now (s .args .s)) (sym (c .before .before .before .before .before .before .before .block-fields .ensures) ∙ ap blockReply (c .before .before .before .before .before .b .given .1)) in
-    record { passed = rw (r .value) (r .passed (s .pre .0)); enough = rw (r .value) (rw (r .value) at (c .before .before .if1 .left)) }
+enum-known-b : tie.Need-enum-known-b
+enum-known-b c = search needs
 
-counted-requires : tie.Need-counted-requires
-counted-requires c κs = search needs
+enum-told-2 : tie.Need-enum-told-2
+enum-told-2 c = search needs
+
+refusal-requires-2 : tie.Need-refusal-requires-2
+refusal-requires-2 c κs = search needs
 
 same-length : tie.Need-same-length
 same-length c = search needs
 
+returns-2 : tie.Need-returns-2
+returns-2 c =
+    let x = c .before .before .before .before .before .before .before .before .before .before .before .before .before .before .args in
+    let told = c .before .enum-told2 .given .1 in
+    let e = sym (c .before .before .before .before .before .before .before .before .before .before .group-fields .ensures) ∙ ap groupReply (c .before .before .before .before .before .before .before .before .g .given .1) in
+    rw (c .refusal2 .ensures, told) (offer-refused (x .day) (now (x .s)) e _ (rw told at (c .before .before .before .before .before .take-units .ensures)))
+
+counted-requires : tie.Need-counted-requires
+counted-requires c κs = c .before .before .before .before .before .before .before .before .before .before .before .before .before .before .before .pre .1
+
+same-length-2 : tie.Need-same-length-2
+same-length-2 c = search needs
+
 returns-3 : tie.Need-returns-3
-unfolding blockTaken next need
 returns-3 c =
-    let s = c .before .before .before .before .before .before .before .before .before .before .before .before .before .before in
-    let p = sym (c .before .before .before .before .before .before .before .before .before .before .before .block-fields .ensures) ∙ ap blockReply (c .before .before .before .before .before .before .before .before .before .b .given .1) in
-    let r = read (s .args .day) (now (s .args .s)) p in
-    takes-room _ _ _ _ (simp (p, le-leb _ _ (c .before .before .before .before .before .before .if1 .left), c .counted .ensures))
-    (result-length (now (s .args .s)) _ _ ∙ rw (r .value))
-    (rw (r .value) at (c .before .before .before .write-result .ensures))
+    let x = c .before .before .before .before .before .before .before .before .before .before .before .before .before .before .before .before .args in
+    let block = c .before .before .before .b .given in
+    let e = sym (c .before .before .before .before .before .before .before .before .before .before .before .before .group-fields .ensures) ∙ ap groupReply (c .before .before .before .before .before .before .before .before .before .before .g .given .1) in
+    rw (c .counted .ensures) (offer-taken (x .day) (now (x .s)) e (block .0 .0) (rw (block .1) at (c .before .before .before .before .before .before .before .take-units .ensures)))
 
 pub take-block-spec : {M : Type 1} → statement M
 take-block-spec =
     tie.close
     (tie.spec
-    block-fields-requires
-    enum-known-b
+    group-fields-requires
+    enum-known-g
     enum-told
     refusal-requires
     returns
-    returns-2
-    write-result-requires
-    counted-requires
+    take-units-requires
+    enum-known-b
+    enum-told-2
+    refusal-requires-2
     same-length
+    returns-2
+    counted-requires
+    same-length-2
     returns-3)

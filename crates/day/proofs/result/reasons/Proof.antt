@@ -11,9 +11,9 @@ use mir.Syntax.{w32}
 use mir.Val.{SFits}
 use mir.Facts.{toZ-ofZ}
 use Rattle.numbers.specs.Column.{at}
-use Rattle.records.proofs.Filling.{Filled, fill-none, fill-more, fill-all}
 use Rattle.group.specs.Steps.{reasonOf}
 use Rattle.day.specs.Blocks.{reasonColumn, Told}
+use Rattle.day.proofs.Filling.{Filled, fill-none, fill-more, fill-all}
 use Rattle.day.proofs.result.reasons.Tie as tie
 use Rattle.day.proofs.result.reasons.Statement.{statement}
 

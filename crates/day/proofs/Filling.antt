@@ -1,6 +1,6 @@
 -- A loop that fills a lent column from the front: the entries passed are f's, and the others are as they were.
 use Prim.Native.Nat.{ℕ, _+_, _≤_, _<_}
-use mathlib.Core.Path.{_≡_, _∙_}
+use mathlib.Core.Path.{_≡_, sym, _∙_}
 use mathlib.Core.List.{List, _++_}
 use native.Mathlib.Omega.{arith}
 use lib.ListN.{length, set, drop, length-set}
@@ -28,3 +28,7 @@ module _ {X : Type 0} (f : ℕ → X) (count : ℕ) (entry : List X) where
   fill-all i col h k fill =
       let e : i ≡ count = omega arith in
       fill .so ∙ rw e (column-all f entry count (fill .first))
+
+-- a column that is being filled keeps its length
+pub kept : {X : Type 0} {f : ℕ → X} {count i : ℕ} {entry col : List X} → Filled f count i entry col → length col ≡ length entry
+kept fill = fill .long ∙ sym (fill .first)
