@@ -1,0 +1,50 @@
+-- `lay_result_lines` meets its contract: the units' lines stand behind the group's.
+use Prim.Native.Nat.{_+_, _*_}
+use native.Mathlib.Omega.{arith}
+use denote.Ref.{now}
+use Rattle.numbers.specs.Bytes.{byteAt}
+use Rattle.records.specs.Layouts.{groupResultAt}
+use Rattle.listing.specs.Lines.{resultLines}
+use Rattle.listing.proofs.Parts.{then, within}
+use borrow.Author.Needs.{needs}
+use Rattle.listing.proofs.lines.lay_result_lines.Statement.{statement}
+use Rattle.listing.proofs.lines.lay_result_lines.Tie as tie
+
+lay-group-line-requires : tie.Need-lay-group-line-requires
+lay-group-line-requires c κs = search needs
+
+shared-slice-read-lay-unit-lines : tie.Need-shared-slice-read-lay-unit-lines
+shared-slice-read-lay-unit-lines c = search needs
+
+cast-lay-unit-lines : tie.Need-cast-lay-unit-lines
+cast-lay-unit-lines c = search needs
+
+lay-unit-lines-requires : tie.Need-lay-unit-lines-requires
+lay-unit-lines-requires c κs = search needs
+
+same-length : tie.Need-same-length
+same-length c = search needs
+
+returns : tie.Need-returns
+unfolding resultLines groupResultAt
+returns c =
+    let s = c .before .before .before .before .before .before .before .before .before .before .before in
+    let a = s .args in
+    let out = now (a .out) in
+    let count = byteAt (now (a .result)) 6 in
+    let h = s .pre .0 .few in
+    let group = c .before .before .before .before .before .before .before .lay-group-line in
+    let units = c .before .before .lay-unit-lines in
+    let all = then out (a .at) 88 (63 * count) (group .result) (units .result) (omega (arith, s .pre .1)) (group .ensures) (units .ensures) in
+    within out (a .at) (88 + 63 * count) 4120 (units .result) (omega (arith, all .few)) all
+
+pub lay-result-lines-spec : {M : Type 1} → statement M
+lay-result-lines-spec =
+    tie.close
+    (tie.spec
+    lay-group-line-requires
+    shared-slice-read-lay-unit-lines
+    cast-lay-unit-lines
+    lay-unit-lines-requires
+    same-length
+    returns)

@@ -1,0 +1,13 @@
+-- `must_wait` meets its contract, answer by answer.
+use borrow.Author.Needs.{needs}
+use Rattle.listing.proofs.list.must_wait.Statement.{statement}
+use Rattle.listing.proofs.list.must_wait.Tie as tie
+
+returns : tie.Need-returns
+returns c = search needs
+
+returns-2 : tie.Need-returns-2
+returns-2 c = rw (c .if1 .left)
+
+pub must-wait-spec : {M : Type 1} → statement M
+must-wait-spec = tie.close (tie.spec returns returns-2)

@@ -1,0 +1,107 @@
+// The parts of a line: its word, a field after one space, the line feed.
+ghost use mathlib.Core.Path.{_≡_};
+ghost use mathlib.Core.List.{[], _∷_};
+ghost use Prim.Native.Nat.{_+_, _≤_};
+ghost use lib.ListN.{length};
+ghost use Rattle.listing.specs.Lines.{decimal, signedDecimal};
+ghost use Rattle.listing.specs.Laying.{Lays};
+use crate::number::digit_count;
+use crate::number::lay_digits;
+use crate::number::long_count;
+use numbers::bytes::lay_u8;
+use numbers::signed::magnitude;
+
+const SPACE: u8 = 32;
+
+const MINUS: u8 = 45;
+
+const LINE_FEED: u8 = 10;
+
+pub fn lay_word(out: &mut [u8], at: usize, word: &[u8]) -> usize
+    requires { ⌜ at + length (now word) ≤ length (now out) ⌝ }
+    ensures { λ r. ⌜ Lays (now (out .entry)) at (now (word .entry)) (length (now (word .entry))) r (now (out .exit)) ⌝ }
+{
+    let mut i = 0;
+    while i < word.len() {
+        lay_u8(out, at + i, word[i]);
+        i += 1;
+    }
+    at + i
+}
+
+fn lay_number(out: &mut [u8], at: usize, n: u32) -> usize
+    requires { ⌜ at + length (decimal n) ≤ length (now out) ⌝ }
+    ensures { λ r. ⌜ Lays (now (out .entry)) at (decimal n) (length (decimal n)) r (now (out .exit)) ⌝ }
+{
+    let count = digit_count(n);
+    lay_digits(out, at, count, n as u64);
+    at + count
+}
+
+fn lay_field(out: &mut [u8], at: usize, n: u32) -> usize
+    requires { ⌜ at + 1 + length (decimal n) ≤ length (now out) ⌝ }
+    ensures { λ r. ⌜ Lays (now (out .entry)) at (32 ∷ decimal n) (1 + length (decimal n)) r (now (out .exit)) ⌝ }
+{
+    lay_u8(out, at, SPACE);
+    lay_number(out, at + 1, n)
+}
+
+pub fn lay_u8_field(out: &mut [u8], at: usize, n: u8) -> usize
+    requires { ⌜ at + 4 ≤ length (now out) ⌝ }
+    ensures { λ r. ⌜ Lays (now (out .entry)) at (32 ∷ decimal n) 4 r (now (out .exit)) ⌝ }
+{
+    lay_field(out, at, n as u32)
+}
+
+pub fn lay_u16_field(out: &mut [u8], at: usize, n: u16) -> usize
+    requires { ⌜ at + 6 ≤ length (now out) ⌝ }
+    ensures { λ r. ⌜ Lays (now (out .entry)) at (32 ∷ decimal n) 6 r (now (out .exit)) ⌝ }
+{
+    lay_field(out, at, n as u32)
+}
+
+pub fn lay_u32_field(out: &mut [u8], at: usize, n: u32) -> usize
+    requires { ⌜ at + 11 ≤ length (now out) ⌝ }
+    ensures { λ r. ⌜ Lays (now (out .entry)) at (32 ∷ decimal n) 11 r (now (out .exit)) ⌝ }
+{
+    lay_field(out, at, n)
+}
+
+pub fn lay_u64_field(out: &mut [u8], at: usize, n: u64) -> usize
+    requires { ⌜ at + 21 ≤ length (now out) ⌝ }
+    ensures { λ r. ⌜ Lays (now (out .entry)) at (32 ∷ decimal n) 21 r (now (out .exit)) ⌝ }
+{
+    let count = long_count(n);
+    lay_u8(out, at, SPACE);
+    lay_digits(out, at + 1, count, n);
+    at + 1 + count
+}
+
+// A negative quantity, whose size is below 2 ^ 32, has its sign between the space and the digits.
+fn lay_negative(out: &mut [u8], at: usize, size: u32) -> usize
+    requires { ⌜ at + 12 ≤ length (now out) ⌝ }
+    ensures { λ r. ⌜ Lays (now (out .entry)) at (32 ∷ 45 ∷ decimal size) 12 r (now (out .exit)) ⌝ }
+{
+    lay_u8(out, at, SPACE);
+    lay_u8(out, at + 1, MINUS);
+    lay_number(out, at + 2, size)
+}
+
+pub fn lay_i32_field(out: &mut [u8], at: usize, z: i32) -> usize
+    requires { ⌜ at + 12 ≤ length (now out) ⌝ }
+    ensures { λ r. ⌜ Lays (now (out .entry)) at (32 ∷ signedDecimal z) 12 r (now (out .exit)) ⌝ }
+{
+    let size = magnitude(z);
+    if z < 0 {
+        return lay_negative(out, at, size);
+    }
+    lay_u32_field(out, at, size)
+}
+
+pub fn lay_feed(out: &mut [u8], at: usize) -> usize
+    requires { ⌜ at + 1 ≤ length (now out) ⌝ }
+    ensures { λ r. ⌜ Lays (now (out .entry)) at (10 ∷ []) 1 r (now (out .exit)) ⌝ }
+{
+    lay_u8(out, at, LINE_FEED);
+    at + 1
+}

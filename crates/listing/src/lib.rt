@@ -1,0 +1,5 @@
+// The day list: the lines of what a day accepts, and one step of the list.
+mod field;
+mod lines;
+pub mod list;
+mod number;

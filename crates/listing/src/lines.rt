@@ -1,0 +1,123 @@
+// The lines of the day list, each laid at a place of a room.
+ghost use mathlib.Core.Path.{_≡_};
+ghost use mathlib.Core.List.{[], _∷_};
+ghost use Prim.Native.Nat.{_+_, _*_, _≤_};
+ghost use lib.ListN.{length};
+ghost use Rattle.numbers.specs.Bytes.{byteAt, be16, be32, signed32};
+ghost use Rattle.records.specs.Layouts.{groupResultAt, unitResultAt};
+ghost use Rattle.writers.specs.Runs.{run};
+ghost use Rattle.listing.specs.Lines.{decimal, signedDecimal, spaced, dayLine, groupLine, unitLine, unitLineAt, endLine, refusedLine, resultLines};
+ghost use Rattle.listing.specs.Laying.{Lays, Readable};
+use crate::field::lay_feed;
+use crate::field::lay_i32_field;
+use crate::field::lay_u8_field;
+use crate::field::lay_u16_field;
+use crate::field::lay_u32_field;
+use crate::field::lay_u64_field;
+use crate::field::lay_word;
+use numbers::bytes::i32_at;
+use numbers::bytes::u16_at;
+use records::day::DayRecord;
+use records::group_result::GroupResult;
+use records::unit_result::UnitResult;
+
+pub fn lay_day_line(out: &mut [u8], at: usize, d: DayRecord) -> usize
+    requires { ⌜ at + 25 ≤ length (now out) ⌝ }
+    ensures { λ r. ⌜ Lays (now (out .entry)) at (dayLine d) 25 r (now (out .exit)) ⌝ }
+{
+    let word = lay_word(out, at, b"DAY");
+    let day = lay_u16_field(out, word, d.day);
+    let quarters = lay_u8_field(out, day, d.quarters);
+    let run = lay_u32_field(out, quarters, d.run);
+    lay_feed(out, run)
+}
+
+pub fn lay_end_line(out: &mut [u8], at: usize, groups: u32) -> usize
+    requires { ⌜ at + 15 ≤ length (now out) ⌝ }
+    ensures { λ r. ⌜ Lays (now (out .entry)) at (endLine groups) 15 r (now (out .exit)) ⌝ }
+{
+    let word = lay_word(out, at, b"END");
+    let counted = lay_u32_field(out, word, groups);
+    lay_feed(out, counted)
+}
+
+pub fn lay_refused_line(out: &mut [u8], at: usize, number: u8, place: u64) -> usize
+    requires { ⌜ at + 33 ≤ length (now out) ⌝ }
+    ensures { λ r. ⌜ Lays (now (out .entry)) at (refusedLine number place) 33 r (now (out .exit)) ⌝ }
+{
+    let word = lay_word(out, at, b"REFUSED");
+    let numbered = lay_u8_field(out, word, number);
+    let placed = lay_u64_field(out, numbered, place);
+    lay_feed(out, placed)
+}
+
+// GROUP and the fields before the quantities.
+fn lay_group_front(out: &mut [u8], at: usize, result: &[u8]) -> usize
+    requires { ⌜ (27 ≤ length (now result)) × (at + 27 ≤ length (now out)) ⌝ }
+    ensures { λ r. ⌜ Lays (now (out .entry)) at (spaced (71 ∷ 82 ∷ 79 ∷ 85 ∷ 80 ∷ []) (decimal (be16 (now (result .entry)) 1) ∷ decimal (byteAt (now (result .entry)) 3) ∷ decimal (byteAt (now (result .entry)) 4) ∷ decimal (byteAt (now (result .entry)) 5) ∷ decimal (byteAt (now (result .entry)) 6) ∷ [])) 27 r (now (out .exit)) ⌝ }
+{
+    let brp = u16_at(result, GroupResult::BRP);
+    let word = lay_word(out, at, b"GROUP");
+    let party = lay_u16_field(out, word, brp);
+    let zone = lay_u8_field(out, party, result[GroupResult::ZONE]);
+    let quarter = lay_u8_field(out, zone, result[GroupResult::QUARTER]);
+    let verdict = lay_u8_field(out, quarter, result[GroupResult::VERDICT]);
+    lay_u8_field(out, verdict, result[GroupResult::COUNT])
+}
+
+// Four quantities, which stand one after another from a place of the result on.
+fn lay_quantities(out: &mut [u8], at: usize, result: &[u8], from: usize) -> usize
+    requires { ⌜ (from + 16 ≤ length (now result)) × (at + 48 ≤ length (now out)) ⌝ }
+    ensures { λ r. ⌜ Lays (now (out .entry)) at (spaced [] (signedDecimal (signed32 (be32 (now (result .entry)) from)) ∷ signedDecimal (signed32 (be32 (now (result .entry)) (from + 4))) ∷ signedDecimal (signed32 (be32 (now (result .entry)) (from + 8))) ∷ signedDecimal (signed32 (be32 (now (result .entry)) (from + 12))) ∷ [])) 48 r (now (out .exit)) ⌝ }
+{
+    let a = lay_i32_field(out, at, i32_at(result, from));
+    let b = lay_i32_field(out, a, i32_at(result, from + 4));
+    let c = lay_i32_field(out, b, i32_at(result, from + 8));
+    lay_i32_field(out, c, i32_at(result, from + 12))
+}
+
+fn lay_group_line(out: &mut [u8], at: usize, result: &[u8]) -> usize
+    requires { ⌜ (27 ≤ length (now result)) × (at + 88 ≤ length (now out)) ⌝ }
+    ensures { λ r. ⌜ Lays (now (out .entry)) at (groupLine (groupResultAt (now (result .entry)) 0)) 88 r (now (out .exit)) ⌝ }
+{
+    let balance = i32_at(result, GroupResult::BALANCE);
+    let front = lay_group_front(out, at, result);
+    let sums = lay_quantities(out, front, result, GroupResult::P);
+    let balanced = lay_i32_field(out, sums, balance);
+    lay_feed(out, balanced)
+}
+
+fn lay_unit_line(out: &mut [u8], at: usize, result: &[u8], from: usize) -> usize
+    requires { ⌜ (from + 20 ≤ length (now result)) × (at + 63 ≤ length (now out)) ⌝ }
+    ensures { λ r. ⌜ Lays (now (out .entry)) at (unitLine (unitResultAt (now (result .entry)) from)) 63 r (now (out .exit)) ⌝ }
+{
+    let number = u16_at(result, from + UnitResult::NUMBER);
+    let word = lay_word(out, at, b"UNIT");
+    let numbered = lay_u16_field(out, word, number);
+    let reason = lay_u8_field(out, numbered, result[from + UnitResult::REASON]);
+    let steps = lay_quantities(out, reason, result, from + UnitResult::N0);
+    lay_feed(out, steps)
+}
+
+// A line for each of so many units.
+fn lay_unit_lines(out: &mut [u8], at: usize, result: &[u8], count: usize) -> usize
+    requires { ⌜ (count ≤ 64) × ((27 + 20 * count ≤ length (now result)) × (at + 63 * count ≤ length (now out))) ⌝ }
+    ensures { λ r. ⌜ Lays (now (out .entry)) at (run (unitLineAt (now (result .entry))) count) (63 * count) r (now (out .exit)) ⌝ }
+{
+    let mut here = at;
+    let mut i = 0;
+    while i < count {
+        here = lay_unit_line(out, here, result, GroupResult::LEN + UnitResult::LEN * i);
+        i += 1;
+    }
+    here
+}
+
+// The lines of a block's result: 88 bytes at most for its group, and 63 for each unit.
+pub fn lay_result_lines(out: &mut [u8], at: usize, result: &[u8]) -> usize
+    requires { ⌜ Readable (now result) × (at + 4120 ≤ length (now out)) ⌝ }
+    ensures { λ r. ⌜ Lays (now (out .entry)) at (resultLines (now (result .entry))) 4120 r (now (out .exit)) ⌝ }
+{
+    let units = lay_group_line(out, at, result);
+    lay_unit_lines(out, units, result, result[GroupResult::COUNT] as usize)
+}

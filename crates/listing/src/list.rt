@@ -1,0 +1,166 @@
+// One step of the day list: the next record or block of the input is offered to the day, and its lines are written.
+ghost use mathlib.Core.Path.{_≡_};
+ghost use Prim.Native.Nat.{_≤_, _<_};
+ghost use lib.ListN.{length};
+ghost use Rattle.numbers.specs.Bytes.{byteAt};
+ghost use Rattle.terms.specs.Refusals.{numberOf};
+ghost use Rattle.day.specs.Offers.{offerOf};
+ghost use Rattle.listing.specs.Laying.{Lays, Readable};
+ghost use Rattle.listing.specs.Listing.{acceptedLines, listTaken, listRefused, listReply, waits, closedIn, over, listOf, Lists};
+use crate::lines::lay_day_line;
+use crate::lines::lay_end_line;
+use crate::lines::lay_refused_line;
+use crate::lines::lay_result_lines;
+use day::offer::Offered;
+use day::offer::Step;
+use day::offer::offer;
+use day::value::Day;
+use records::day::DayRecord;
+use records::group::GroupRecord;
+use std::num::wrapping_add_u64;
+use terms::refusal::Refusal;
+use walk::table::State;
+
+// The day so far, and how many bytes of the input were listed.
+pub struct Listing {
+    pub day: Day,
+    pub place: u64,
+}
+
+impl Listing {
+    // A block's most bytes, those of its result, and those of its lines.
+    pub const BLOCK: usize = 1674;
+
+    pub const RESULT: usize = 1307;
+
+    pub const LINES: usize = 4120;
+}
+
+// What was accepted: how many bytes of the input it has, how many its lines have, and the list after it.
+pub struct Part {
+    pub used: usize,
+    pub written: usize,
+    pub listing: Listing,
+}
+
+pub enum Listed {
+    Taken(Part),
+    // The length of the last line; the list stops.
+    Refused(usize),
+    // More of the input is wanted.
+    Waits,
+    // More room is wanted.
+    Full,
+    // The day is closed and nothing is left.
+    Done,
+}
+
+fn is_closed(state: State) -> bool
+    ensures { λ r. ⌜ r ≡ closedIn state ⌝ }
+{
+    match state {
+        State::Fresh => false,
+        State::Open => false,
+        State::Closed => true,
+    }
+}
+
+fn is_over(day: Day, s: &[u8]) -> bool
+    ensures { λ r. ⌜ r ≡ over day (now (s .entry)) ⌝ }
+{
+    if s.len() == 0 {
+        let state = day.state;
+        return is_closed(state);
+    }
+    false
+}
+
+fn must_wait(s: &[u8], ended: bool) -> bool
+    ensures { λ r. ⌜ r ≡ waits (now (s .entry)) ended ⌝ }
+{
+    if ended {
+        return false;
+    }
+    s.len() < Listing::BLOCK
+}
+
+// The lines of what was accepted, by its kind.
+fn lay_accepted(room: &mut [u8], kind: u8, day: Day, result: &[u8]) -> usize
+    requires { ⌜ (kind ≡ 2 → Readable (now result)) × (4120 ≤ length (now room)) ⌝ }
+    ensures { λ r. ⌜ Lays (now (room .entry)) 0 (acceptedLines kind day (now (result .entry))) 4120 r (now (room .exit)) ⌝ }
+{
+    if kind == DayRecord::KIND {
+        let record = day.record;
+        return lay_day_line(room, 0, record);
+    }
+    if kind == GroupRecord::KIND {
+        return lay_result_lines(room, 0, result);
+    }
+    lay_end_line(room, 0, day.groups)
+}
+
+fn list_taken(place: u64, step: Step, kind: u8, result: &[u8], room: &mut [u8]) -> Listed
+    requires { ⌜ (kind ≡ 2 → Readable (now result)) × (4120 ≤ length (now room)) ⌝ }
+    ensures { λ r. ⌜ Lists (listTaken place step kind (now (result .entry))) (now (room .entry)) r (now (room .exit)) ⌝ }
+{
+    let day = step.day;
+    let written = lay_accepted(room, kind, day, result);
+    let after = wrapping_add_u64(place, step.used as u64);
+    Listed::Taken(Part {
+        used: step.used,
+        written,
+        listing: Listing { day, place: after },
+    })
+}
+
+fn list_refused(place: u64, r: Refusal, room: &mut [u8]) -> Listed
+    requires { ⌜ 4120 ≤ length (now room) ⌝ }
+    ensures { λ a. ⌜ Lists (listRefused place (numberOf (r .why)) (r .place)) (now (room .entry)) a (now (room .exit)) ⌝ }
+{
+    let why = r.why;
+    let at = wrapping_add_u64(place, r.place as u64);
+    Listed::Refused(lay_refused_line(room, 0, why.number(), at))
+}
+
+// The step, by way of room for a result.
+fn list_through(l: Listing, s: &[u8], result: &mut [u8], room: &mut [u8]) -> Listed
+    requires { ⌜ (length (now result) ≡ 1307) × (4120 ≤ length (now room)) ⌝ }
+    ensures { λ r. ⌜ Lists (listReply (l .place) (now (s .entry)) (offerOf (l .day) (now (s .entry)) 1307)) (now (room .entry)) r (now (room .exit)) ⌝ }
+{
+    let day = l.day;
+    match offer(day, s, result) {
+        Offered::Taken(step) => list_taken(l.place, step, s[0], result, room),
+        Offered::Refused(r, _) => list_refused(l.place, r, room),
+    }
+}
+
+fn result_room() -> [u8; 1307]
+    ensures { λ r. ⌜ 1307 ≡ length r ⌝ }
+{
+    [0; 1307]
+}
+
+fn list_offer(l: Listing, s: &[u8], room: &mut [u8]) -> Listed
+    requires { ⌜ 4120 ≤ length (now room) ⌝ }
+    ensures { λ r. ⌜ Lists (listReply (l .place) (now (s .entry)) (offerOf (l .day) (now (s .entry)) 1307)) (now (room .entry)) r (now (room .exit)) ⌝ }
+{
+    let mut result = result_room();
+    list_through(l, s, &mut result, room)
+}
+
+// One step: s are the bytes of the input that are at hand from the listing's place on, and none will come after them where it has ended.
+pub fn list_next(l: Listing, s: &[u8], ended: bool, room: &mut [u8]) -> Listed
+    ensures { λ r. ⌜ Lists (listOf l (now (s .entry)) ended (length (now (room .entry)))) (now (room .entry)) r (now (room .exit)) ⌝ }
+{
+    if room.len() < Listing::LINES {
+        return Listed::Full;
+    }
+    if must_wait(s, ended) {
+        return Listed::Waits;
+    }
+    let day = l.day;
+    if is_over(day, s) {
+        return Listed::Done;
+    }
+    list_offer(l, s, room)
+}
