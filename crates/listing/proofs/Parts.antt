@@ -1,5 +1,5 @@
 -- Parts of a line one after another: each is laid where the one before ends, and together they are as long as all of them.
-use Prim.Native.Nat.{ℕ, zero, suc, _+_, _*_, _≤_, _<_}
+use Prim.Native.Nat.{ℕ, suc, _+_, _*_, _≤_, _<_}
 use mathlib.Core.Path.{_≡_, refl, sym, ap, _∙_}
 use mathlib.Core.List.{List, [], _∷_, _++_, append-assoc, append-nil}
 use native.Mathlib.Nat.{mul-suc}
@@ -14,9 +14,6 @@ use Rattle.listing.specs.Lines.{spaced}
 use Rattle.listing.specs.Laying.{Lays}
 
 module _ (entry : List ℕ) (at : ℕ) where
-  pub nothing : Lays entry at [] 0 at entry
-  nothing = record { room = laid-none entry at; after = omega arith; few = omega arith }
-
   -- a part, and the next
   pub then : {one two : List ℕ} {xs ys : List ℕ} (m n j r : ℕ) → at + m + n ≤ length entry → Lays entry at xs m j one → Lays one j ys n r two
       → Lays entry at (xs ++ ys) (m + n) r two

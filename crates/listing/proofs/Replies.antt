@@ -1,8 +1,8 @@
 -- The four ends of a step, and what was offered: the lines by the room after the call are those by the block's result.
-use Prim.Native.Nat.{ℕ, zero, suc, _+_, _*_, _≤_, _<_}
+use Prim.Native.Nat.{ℕ, zero, suc, _+_, _*_, _<_}
 use mathlib.Core.Path.{_≡_, refl, sym, ap, _∙_}
 use mathlib.Core.Bool.{Bool, true, false}
-use mathlib.Core.List.{List, [], _++_, append-nil}
+use mathlib.Core.List.{List, [], append-nil}
 use native.Mathlib.Omega.{arith}
 use borrow.Author.Tests.{eqb-true, ltb-true}
 use lib.Dec.{eqb, ltb}
@@ -10,7 +10,7 @@ use lib.ListN.{length, drop, length-append}
 use Rattle.numbers.specs.Bytes.{byteAt}
 use Rattle.numbers.specs.Choice.{pick}
 use Rattle.numbers.proofs.Laid.{laid-none}
-use Rattle.terms.specs.Reply.{Reply, is}
+use Rattle.terms.specs.Reply.{is}
 use Rattle.terms.specs.Refusals.{numberOf, refusal}
 use Rattle.terms.specs.declared.refusal.Refusal.{Refusal}
 use Rattle.terms.proofs.Replies.{need-is, next-is}
@@ -30,7 +30,7 @@ use Rattle.day.proofs.Demands.{accepted, result-bytes, group-told, unit-told}
 use Rattle.listing.specs.declared.list.Listing.{Listing}
 use Rattle.listing.specs.declared.list.Listed.{Listed}
 use Rattle.listing.specs.declared.list.Listed.the-variants.{Waits, Full, Done}
-use Rattle.listing.specs.Lines.{dayLine, endLine, groupLine, unitLine, unitLineAt, resultLines}
+use Rattle.listing.specs.Lines.{dayLine, endLine, unitLine, unitLineAt, resultLines}
 use Rattle.listing.specs.Laying.{Readable}
 use Rattle.listing.specs.Listing.{outcome, acceptedLines, listTaken, listRefused, listReply, waits, over, listOf, Lists}
 

@@ -1,10 +1,10 @@
 -- The digits of a number, laid from the last one back: those that are laid stand behind those of what is left.
-use Prim.Native.Nat.{ℕ, zero, suc, _+_, _-_, _*_, _/_, _%_, _^_, _≤_, _<_}
-use mathlib.Core.Path.{_≡_, refl, sym, ap, _∙_}
+use Prim.Native.Nat.{ℕ, zero, suc, _+_, _-_, _/_, _%_, _^_, _≤_, _<_}
+use mathlib.Core.Path.{_≡_, sym, ap, _∙_}
 use mathlib.Core.List.{List, [], _∷_, _++_, append-assoc, append-nil}
 use native.Mathlib.Omega.{arith}
-use lib.ListN.{length, take, drop, length-append}
-use lib.Seq.{take-at, drop-at, take-take, take-append-le, length-take-le}
+use lib.ListN.{length, take, drop}
+use lib.Seq.{drop-at, take-take, take-append-le, length-take-le}
 use Rattle.numbers.specs.Bytes.{laidAt}
 use Rattle.numbers.proofs.Laid.{laid-none, length-laid}
 use Rattle.listing.specs.Lines.{digit, digits, decimal}

@@ -1,8 +1,7 @@
 // One step of the day list: the next record or block of the input is offered to the day, and its lines are written.
 ghost use mathlib.Core.Path.{_≡_};
-ghost use Prim.Native.Nat.{_≤_, _<_};
+ghost use Prim.Native.Nat.{_≤_};
 ghost use lib.ListN.{length};
-ghost use Rattle.numbers.specs.Bytes.{byteAt};
 ghost use Rattle.terms.specs.Refusals.{numberOf};
 ghost use Rattle.day.specs.Offers.{offerOf};
 ghost use Rattle.listing.specs.Laying.{Lays, Readable};

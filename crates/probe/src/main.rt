@@ -4,6 +4,7 @@ ghost use lib.ListN.{length};
 
 mod columns;
 mod days;
+mod desks;
 mod fields;
 mod frame;
 mod rooms;
@@ -33,6 +34,7 @@ fn call(number: u8, body: &[u8], reply: &mut [u8]) -> usize
         6 => writes::end(body, reply),
         7 => steps::step(body, reply),
         8 => steps::walker(body, reply),
+        9 => desks::checked(body, reply),
         _ => 0,
     }
 }

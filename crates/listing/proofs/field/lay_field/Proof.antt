@@ -1,6 +1,5 @@
 -- `lay_field` meets its contract: the number stands behind the space.
 use Prim.Native.Nat.{_+_}
-use native.Mathlib.Omega.{arith}
 use lib.ListN.{length}
 use denote.Ref.{now}
 use Rattle.listing.specs.Lines.{decimal}

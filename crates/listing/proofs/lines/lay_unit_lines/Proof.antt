@@ -1,8 +1,7 @@
 -- `lay_unit_lines` meets its contract: each turn lays one line more behind those laid so far.
 use Prim.Native.Nat.{_*_, _-_, _≤_}
-use mathlib.Core.Path.{_≡_, ap}
+use mathlib.Core.Path.{_≡_}
 use native.Mathlib.Omega.{arith}
-use lib.ListN.{length}
 use denote.Ref.{now}
 use Rattle.writers.specs.Runs.{run}
 use Rattle.listing.specs.Lines.{unitLineAt}

@@ -2,7 +2,6 @@
 use mathlib.Core.Path.{_≡_}
 use native.Mathlib.Omega.{arith}
 use lib.ListN.{length}
-use denote.Ref.{now}
 use Rattle.terms.specs.Refusals.{numberOf}
 use Rattle.listing.specs.Lines.{refusedLine}
 use Rattle.listing.specs.Listing.{further, listRefused}

@@ -1,5 +1,5 @@
 -- `long_count` meets its contract: the digits counted and those of what is left are all the digits.
-use Prim.Native.Nat.{_<_, _≤_}
+use Prim.Native.Nat.{_<_}
 use native.Mathlib.Omega.{arith}
 use Rattle.listing.proofs.Digits.{no-more}
 use Rattle.listing.proofs.Spelling.{Counting, first-count, next-count, below-count, last-count}
