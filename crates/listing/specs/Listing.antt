@@ -1,7 +1,7 @@
 -- "The day list": one step of it, from the bytes of the input that are at hand.
 use Prim.Native.Nat.{ℕ, _+_, _%_, _^_}
 use mathlib.Core.Path.{_≡_}
-use mathlib.Core.Bool.{Bool, true, false, not, _&&_}
+use mathlib.Core.Bool.{Bool, not, _&&_}
 use mathlib.Core.List.{List, []}
 use lib.Dec.{eqb, ltb}
 use lib.ListN.{length}
@@ -9,8 +9,7 @@ use Rattle.numbers.specs.Bytes.{byteAt, laidAt}
 use Rattle.numbers.specs.Choice.{pick}
 use Rattle.terms.specs.Reply.{Reply, is, refused}
 use Rattle.records.specs.Layouts.{dayKind, groupKind}
-use Rattle.walk.specs.declared.table.State.{State}
-use Rattle.walk.specs.declared.table.State.the-variants.{Fresh, Open, Closed}
+use Rattle.walk.specs.Table.{isClosed}
 use Rattle.day.specs.declared.value.Day.{Day}
 use Rattle.day.specs.declared.offer.Step.{Step}
 use Rattle.day.specs.Offers.{offerOf, writtenOf}
@@ -68,13 +67,8 @@ abbrev pub waits : List ℕ → Bool → Bool
 waits s ended = not ended && ltb (length s) longestBlock
 
 -- closed with nothing left
-abbrev pub closedIn : State → Bool
-closedIn Fresh = false
-closedIn Open = false
-closedIn Closed = true
-
 abbrev pub over : Day → List ℕ → Bool
-over day s = eqb (length s) 0 && closedIn (day .state)
+over day s = eqb (length s) 0 && isClosed (day .state)
 
 -- the step: the next record or block of the input is offered to the day
 unfoldable pub listOf : Listing → List ℕ → Bool → ℕ → Outcome

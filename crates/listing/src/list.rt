@@ -5,7 +5,7 @@ ghost use lib.ListN.{length};
 ghost use Rattle.terms.specs.Refusals.{numberOf};
 ghost use Rattle.day.specs.Offers.{offerOf};
 ghost use Rattle.listing.specs.Laying.{Lays, Readable};
-ghost use Rattle.listing.specs.Listing.{acceptedLines, listTaken, listRefused, listReply, waits, closedIn, over, listOf, Lists};
+ghost use Rattle.listing.specs.Listing.{acceptedLines, listTaken, listRefused, listReply, waits, over, listOf, Lists};
 use crate::lines::lay_day_line;
 use crate::lines::lay_end_line;
 use crate::lines::lay_refused_line;
@@ -18,7 +18,6 @@ use records::day::DayRecord;
 use records::group::GroupRecord;
 use std::num::wrapping_add_u64;
 use terms::refusal::Refusal;
-use walk::table::State;
 
 // The day so far, and how many bytes of the input were listed.
 pub struct Listing {
@@ -54,22 +53,12 @@ pub enum Listed {
     Done,
 }
 
-fn is_closed(state: State) -> bool
-    ensures { λ r. ⌜ r ≡ closedIn state ⌝ }
-{
-    match state {
-        State::Fresh => false,
-        State::Open => false,
-        State::Closed => true,
-    }
-}
-
 fn is_over(day: Day, s: &[u8]) -> bool
     ensures { λ r. ⌜ r ≡ over day (now (s .entry)) ⌝ }
 {
     if s.len() == 0 {
         let state = day.state;
-        return is_closed(state);
+        return state.is_closed();
     }
     false
 }
