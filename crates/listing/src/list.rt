@@ -26,10 +26,8 @@ pub struct Listing {
 }
 
 impl Listing {
-    // A block's most bytes, those of its result, and those of its lines.
+    // A block's most bytes, and those of its lines.
     pub const BLOCK: usize = 1674;
-
-    pub const RESULT: usize = 1307;
 
     pub const LINES: usize = 4120;
 }
