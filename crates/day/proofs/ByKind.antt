@@ -1,16 +1,14 @@
 -- What is offered, by the kind that came: the table leaves three, and the record of each lies whole in the bytes.
-use Prim.Native.Nat.{ℕ, _≤_, _<_}
-use mathlib.Core.Path.{_≡_, refl, sym, ap, _∙_}
-use mathlib.Core.Bool.{true, false, not, _&&_}
+use Prim.Native.Nat.{ℕ, _≤_}
+use mathlib.Core.Path.{_≡_}
+use mathlib.Core.Bool.{true, not}
 use mathlib.Core.List.{List, []}
 use native.Mathlib.Omega.{arith}
-use borrow.Author.Tests.{eqb-false, eq-eqb, ne-eqb, not-true}
+use borrow.Author.Tests.{eqb-false, ne-eqb, not-true}
 use lib.Dec.{eqb}
 use lib.ListN.{length}
-use Rattle.numbers.specs.Bytes.{byteAt}
-use Rattle.numbers.specs.Choice.{pick}
 use Rattle.numbers.proofs.Choices.{and-both}
-use Rattle.terms.specs.Reply.{Reply, is, refused, next}
+use Rattle.terms.specs.Reply.{is, refused, next}
 use Rattle.terms.proofs.Replies.{need-is}
 use Rattle.records.specs.Reading.{permitted}
 use Rattle.walk.specs.declared.table.State.the-variants.{Open}
@@ -18,7 +16,7 @@ use Rattle.walk.specs.declared.table.Head.{Head}
 use Rattle.walk.specs.Table.{headIn}
 use Rattle.walk.proofs.Coming.{Coming, theDay, aGroup, theEnd, Came, came, whole}
 use Rattle.day.specs.declared.value.Day.{Day}
-use Rattle.day.specs.Days.{couldBeOpen, possible, possibleIn}
+use Rattle.day.specs.Days.{couldBeOpen, possible}
 use Rattle.day.specs.Blocks.{blockResult}
 use Rattle.day.specs.Offers.{headFor, dayTaken, blockTaken, endTaken, offerOf, writtenOf}
 

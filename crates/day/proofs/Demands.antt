@@ -1,18 +1,17 @@
 -- The three demands on an offer, sentence by sentence, from its contract: its reply is an equation, its result the group's definitions, and its group accepted.
 use Prim.Native.Nat.{ℕ, _+_, _*_, _≤_, _<_}
-use mathlib.Core.Path.{_≡_, refl, sym, ap, _∙_}
+use mathlib.Core.Path.{_≡_, refl, sym, _∙_}
 use mathlib.Core.Bool.{true, false}
 use mathlib.Core.List.{List, _++_}
 use mathlib.Core.Logic.{_⊎_}
-use borrow.Author.Tests.{eq-eqb}
-use lib.IntN.{ℤ, pos, natAbs, _-ℤ_}
+use lib.IntN.{pos, natAbs}
 use lib.ListN.{length, getD, take, drop}
 use lib.Signed.{ltZ, leZ}
 use Rattle.numbers.specs.Bytes.{byteAt}
 use Rattle.numbers.specs.Choice.{pick}
 use Rattle.numbers.specs.Column.{at}
 use Rattle.numbers.specs.Sum.{sumZ, sumTo}
-use Rattle.terms.specs.Reply.{Reply, is, refused}
+use Rattle.terms.specs.Reply.{Reply, is}
 use Rattle.terms.specs.Refusals.{refusal}
 use Rattle.terms.specs.Quantities.{standing}
 use Rattle.terms.specs.declared.refusal.Refusal.{Refusal}
@@ -29,7 +28,7 @@ use Rattle.day.specs.declared.offer.Offered.{Offered}
 use Rattle.day.specs.declared.offer.Offered.the-variants as O
 use Rattle.day.specs.Days.{counted}
 use Rattle.day.specs.Blocks.{groupResult, blockKey, blockCount, blockGroup, blockResult}
-use Rattle.day.specs.Offers.{dayAfter, roomAfter, offerOf, writtenOf, Offering, Offers}
+use Rattle.day.specs.Offers.{dayAfter, roomAfter, writtenOf, Offering, Offers}
 use Rattle.day.proofs.Taking.{refuses, takes}
 use Rattle.day.proofs.Read.{read}
 use Rattle.day.proofs.Outcomes.{TakenBlock, taken-block, reply, laid-out, result-at-front, rest-kept}

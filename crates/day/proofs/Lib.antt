@@ -8,6 +8,7 @@ pub mod Taking
 pub mod UnitsTaken
 pub mod ByKind
 pub mod Outcomes
+pub mod Beyond
 pub mod ReadBack
 pub mod Sayable
 pub mod Written

@@ -3,14 +3,13 @@ use Prim.Native.Nat.{ℕ, _+_, _*_, _≤_}
 use mathlib.Core.Path.{_≡_, refl, sym, ap, _∙_}
 use mathlib.Core.Bool.{Bool, true, false}
 use mathlib.Core.List.{List, [], _++_}
-use native.Mathlib.Omega.{arith}
-use borrow.Author.Tests.{leb-true, eqb-true, eqb-false, eq-eqb}
+use borrow.Author.Tests.{leb-true, eqb-true, eqb-false}
 use lib.Dec.{eqb}
-use lib.ListN.{length, take, drop, length-append, length-drop}
+use lib.ListN.{length, take, drop}
 use lib.Seq.{take-at, drop-at}
 use Rattle.numbers.specs.Bytes.{byteAt}
 use Rattle.numbers.specs.Choice.{pick}
-use Rattle.terms.specs.Reply.{Reply, is}
+use Rattle.terms.specs.Reply.{is}
 use Rattle.terms.proofs.Replies.{need-is, next-is}
 use Rattle.records.specs.Layouts.{groupKind, groupAt}
 use Rattle.walk.specs.declared.table.Head.{Head}
@@ -22,9 +21,9 @@ use Rattle.day.specs.Days.{opened, counted, closed}
 use Rattle.day.specs.Checking.{blockOf, blockFieldsOf}
 use Rattle.day.specs.Blocks.{blockKey, blockCount, blockResult}
 use Rattle.day.specs.Offers.{headFor, dayTaken, blockTaken, endTaken, taken, offerOf, writtenOf, roomAfter, Offers}
-use Rattle.day.proofs.Read.{Read, read}
+use Rattle.day.proofs.Read.{read}
 use Rattle.day.proofs.Taking.{result-length}
-use Rattle.day.proofs.ByKind.{head-came, group-long, offer-block, block-writes, offer-day, offer-end}
+use Rattle.day.proofs.ByKind.{head-came, group-long, offer-block}
 
 -- a block that was taken
 pub record TakenBlock (day : Day) (s : List ℕ) (room : ℕ) (step : Step) : Type 0 where

@@ -1,12 +1,10 @@
 -- Another party's block: what is written for a block is its result, which depends on its own bytes alone, in whichever day it stands.
 use Prim.Native.Nat.{ℕ}
-use mathlib.Core.Path.{_≡_, refl, sym, ap, _∙_}
+use mathlib.Core.Path.{_≡_, sym, ap, _∙_}
 use mathlib.Core.List.{List, [], _∷_, _++_, List·Memᴰ, List·Memᴰ·head, List·Memᴰ·tail, List·Memᴰ·cases-cons, List·Memᴰ·not-nil}
 use mathlib.Core.Logic.{⊎-elim}
-use Rattle.terms.specs.Reply.{next, need}
 use Rattle.records.specs.Reading.{follows, groupFieldsOf}
 use Rattle.day.specs.declared.value.Day.{Day}
-use Rattle.day.specs.Days.{fresh}
 use Rattle.day.specs.Checking.{blockFieldsOf}
 use Rattle.day.specs.Blocks.{blockKey}
 use Rattle.day.specs.Offers.{writtenOf}

@@ -1,21 +1,18 @@
 -- The result of a block that was accepted, read by the layouts, gives the values of its group: each fits its field.
-use Prim.Native.Nat.{ℕ, _+_, _*_, _≤_, _<_}
-use mathlib.Core.Path.{_≡_, refl, sym, ap, _∙_}
+use Prim.Native.Nat.{ℕ, _+_, _*_, _<_}
+use mathlib.Core.Path.{_≡_, refl, _∙_}
 use mathlib.Core.Bool.{Bool, false}
 use mathlib.Core.List.{List, _++_}
 use native.Mathlib.Omega.{arith}
 use lib.IntN.{ℤ, pos, negℤ}
 use lib.ListN.{length, getD}
-use mir.Syntax.{w32}
-use mir.Val.{SFits}
-use Rattle.numbers.specs.Range.{Within}
-use Rattle.numbers.specs.Column.{column, at}
+use Rattle.numbers.specs.Column.{at}
 use Rattle.numbers.specs.Sum.{sumZ}
 use Rattle.numbers.proofs.Integers.{zarith, neg, minus}
 use Rattle.numbers.proofs.Sums.{sum64-within}
 use Rattle.numbers.proofs.Columns.{column-length, column-at}
 use Rattle.group.specs.Steps.{reasonOf}
-use Rattle.group.specs.Group.{Group, units, position, n1, n2, n3}
+use Rattle.group.specs.Group.{Group, position, n1, n2, n3}
 use Rattle.group.specs.Columns.{sumsOf, sumsBy}
 use Rattle.group.specs.Asked.{Judged}
 use Rattle.group.proofs.Accepting.{Accepted}
@@ -27,8 +24,8 @@ use Rattle.records.specs.Reading.{unitIn}
 use Rattle.records.specs.Decoding.{unitN0, unitImplicit, numbersIn, implicitsIn}
 use Rattle.writers.specs.Results.{resultOf}
 use Rattle.writers.proofs.Fields.{HeldGroupResult, HeldUnitResult}
-use Rattle.writers.proofs.Back.{HeldResults, results-back}
-use Rattle.day.specs.Blocks.{groupIn, reasonColumn, reasonsOf, groupResult, unitResults, resultIn, blockKey, blockCount, blockGroup}
+use Rattle.writers.proofs.Back.{results-back}
+use Rattle.day.specs.Blocks.{reasonColumn, groupResult, unitResults, resultIn, blockKey, blockCount, blockGroup}
 
 -- what an accepted group is judged by
 judged : (g : Group) → Accepted g → Judged g (g .n0) (g .n0) (g .n0)

@@ -1,6 +1,6 @@
 -- The two ends of an offer: what was refused left the day and the room as they were, and what was taken wrote its result at the front of the room.
 use Prim.Native.Nat.{ℕ, _+_, _*_}
-use mathlib.Core.Path.{_≡_, refl, sym, ap, _∙_}
+use mathlib.Core.Path.{_≡_, refl, sym, _∙_}
 use mathlib.Core.List.{List, []}
 use native.Mathlib.Omega.{arith}
 use lib.ListN.{length, length-append}

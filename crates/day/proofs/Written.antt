@@ -1,13 +1,13 @@
 -- What the checks pass is taken, and so is what our writers made, by a day that takes it next: its head comes by the table, and its fields are read.
 use Prim.Native.Nat.{ℕ, _+_, _*_, _≤_}
-use mathlib.Core.Path.{_≡_, refl, sym, ap, _∙_}
+use mathlib.Core.Path.{_≡_, refl, _∙_}
 use mathlib.Core.Bool.{true}
 use mathlib.Core.List.{List}
 use native.Mathlib.Omega.{arith}
 use borrow.Author.Tests.{lt-ltb, le-leb}
 use lib.ListN.{length}
 use Rattle.numbers.proofs.Choices.{and-both}
-use Rattle.terms.specs.Reply.{Reply, is, need, next}
+use Rattle.terms.specs.Reply.{is, need, next}
 use Rattle.terms.specs.Refusals.{answer}
 use Rattle.terms.specs.declared.refusal.Answer.{Answer}
 use Rattle.terms.proofs.Replies.{need-is, next-is}
@@ -16,7 +16,7 @@ use Rattle.records.specs.declared.group.GroupRecord.{GroupRecord}
 use Rattle.records.specs.declared.key.Last.{Last}
 use Rattle.records.specs.declared.end.EndRecord.{EndRecord}
 use Rattle.records.specs.Layouts.{groupKind}
-use Rattle.records.specs.Reading.{headOf, keyOf, dayOf, groupOf, groupFieldsOf, endOf, unitsOf}
+use Rattle.records.specs.Reading.{headOf, keyOf, dayOf, groupOf, groupFieldsOf, endOf}
 use Rattle.records.proofs.Heads.{headed}
 use Rattle.writers.specs.Columns.{Columns, count}
 use Rattle.writers.specs.Writing.{groupOver, DayWritten, EndWritten, BlockWritten}
@@ -27,7 +27,6 @@ use Rattle.walk.specs.Table.{bodyOf, mayCome}
 use Rattle.walk.proofs.Coming.{Coming, theDay, aGroup, theEnd, coming, head-of}
 use Rattle.day.specs.declared.value.Day.{Day}
 use Rattle.day.specs.declared.check.Block.{Block}
-use Rattle.day.specs.declared.offer.Step.{Step}
 use Rattle.day.specs.Days.{opened, counted, closed, couldBeOpen, possible}
 use Rattle.day.specs.Checking.{blockOf, blockFieldsOf, checkOf}
 use Rattle.day.specs.Offers.{headFor, dayTaken, blockTaken, endTaken, offerOf}

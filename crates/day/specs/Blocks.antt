@@ -91,7 +91,7 @@ laidAfter (is block) bytes room = laidAt room 0 bytes
 laidAfter (refused number place) bytes room = room
 
 -- ---- what the inner functions ask for, and what they leave
--- the eight columns that reasons are told from, and theirs, are of one length
+-- the seven columns that reasons are told from, and theirs, are of one length
 pub record Told (implicit : List Bool) (n0 n1 n2 n3 stepDown stepUp : List ℤ) (reason : List ℕ) : Type 0 where
   pub implicits : length implicit ≡ length n0
   pub firsts : length n1 ≡ length n0

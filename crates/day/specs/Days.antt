@@ -1,5 +1,5 @@
 -- "Ways in" and "House records": a day that goes in and comes back as a value, and which records may come.
-use Prim.Native.Nat.{ℕ, _+_}
+use Prim.Native.Nat.{_+_}
 use mathlib.Core.Bool.{Bool, true, not, _&&_}
 use lib.Dec.{eqb}
 use Rattle.records.specs.declared.day.DayRecord.{DayRecord}

@@ -1,4 +1,4 @@
--- What the inner functions ask of their callers.
+-- What the inner functions ask of their callers, and what they leave.
 use Prim.Native.Nat.{ℕ, _+_, _-_, _≤_, min}
 use mathlib.Core.Path.{_≡_}
 use mathlib.Core.List.{List}

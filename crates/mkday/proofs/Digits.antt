@@ -1,16 +1,13 @@
 -- Digits read one by one: the size of all is the size of what is left after those read, and a number only grows.
 use Prim.Native.Nat.{ℕ, _+_, _*_, _-_, _≤_, _<_}
-use mathlib.Core.Path.{_≡_, refl, ap}
+use mathlib.Core.Path.{_≡_, refl}
 use mathlib.Core.Bool.{Bool, true, false, _&&_}
 use mathlib.Core.List.{List, [], _∷_}
 use native.Mathlib.Numerals.{add-one}
 use native.Mathlib.Omega.{arith}
 use borrow.Author.Tests.{le-leb, lt-leb}
-use lib.Dec.{leb}
 use lib.ListN.{length, getD, drop}
 use lib.Seq.{drop-cons, drop-length}
-use Rattle.numbers.specs.Choice.{pick}
-use Rattle.mkday.specs.declared.numbers_in.Size.{Size}
 use Rattle.mkday.specs.declared.numbers_in.Size.the-variants.{Is, No}
 use Rattle.mkday.specs.Text.{isDigit, allDigits, numberFrom, sizeFrom, minus}
 

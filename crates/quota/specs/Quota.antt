@@ -9,7 +9,7 @@ use lib.ListN.{length, getD}
 use Rattle.numbers.specs.Column.{column}
 use Rattle.numbers.specs.Sum.{sum, sumTo, bit, count}
 
--- the whole part of unit i's exact share C·n / T, and its remainder
+-- the whole part of unit i's exact share C·n / T, and its remainder; where T is 0 no unit has a size, and both are 0
 unfoldable pub whole : List ℕ → ℕ → ℕ → ℕ
 whole s c i = c * getD s i 0 / sum s
 

@@ -33,12 +33,6 @@ impl GroupResult {
 
     pub const P: usize = 7;
 
-    pub const S1: usize = 11;
-
-    pub const S2: usize = 15;
-
-    pub const S3: usize = 19;
-
     pub const BALANCE: usize = 23;
 
     pub fn new(

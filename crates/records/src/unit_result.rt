@@ -22,12 +22,6 @@ impl UnitResult {
 
     pub const N0: usize = 4;
 
-    pub const N1: usize = 8;
-
-    pub const N2: usize = 12;
-
-    pub const N3: usize = 16;
-
     pub fn new(
         number: u16,
         reason: u8,

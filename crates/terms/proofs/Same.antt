@@ -3,7 +3,7 @@ use Prim.Native.Nat.{ℕ}
 use mathlib.Core.Path.{_≡_, refl, sym, ap, _∙_}
 use mathlib.Core.List.{List, [], _∷_}
 use lib.ListN.{getD}
-use Rattle.terms.specs.Reply.{Reply, refused}
+use Rattle.terms.specs.Reply.{Reply}
 use Rattle.terms.specs.Refusals.{numberOf, refusal, answer}
 use Rattle.terms.specs.declared.refusal.Why.{Why}
 use Rattle.terms.specs.declared.refusal.Why.the-variants as W

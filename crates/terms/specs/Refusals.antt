@@ -66,7 +66,7 @@ unfoldable pub passed : {A : Type 0} → (Fault → ℕ) → Checked → Reply A
 passed place Fine rest = rest
 passed place (Faulty fault) rest = refused (numberOf (whyOf fault)) (place fault)
 
--- units given as columns, from the one of index i on: the first fault is refused at its unit's index, and else their count is told
+-- units given as columns, from the one of index i on: the first fault is refused at its unit's index, and else the index after the last is told, which from 0 on is their count
 unfoldable pub unitsFrom : (ℕ → Checked) → ℕ → ℕ → Reply ℕ
 unitsFrom checks i zero = is i
 unitsFrom checks i (suc left) = passed (λ _. i) (checks i) (unitsFrom checks (suc i) left)

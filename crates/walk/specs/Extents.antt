@@ -36,7 +36,7 @@ abbrev pub bytesIn : List ℕ → List Extent → List ℕ
 bytesIn s [] = []
 bytesIn s (e ∷ es) = slice (e .start) (e .end) s ++ bytesIn s es
 
--- "House records": a day is one day record, blocks, one end record, and nothing after it
+-- "House records": a day is one day record, blocks, one end record, and nothing after it; of what else is asked of a day the walker checks nothing
 pub data Blocks (s : List ℕ) : ℕ → List Extent → Type 0 where
   block : (at end : ℕ) (es : List Extent) → headOf s at groupKind groupLength ≡ is (at + groupLength) → blockOf s at ≡ is end → Blocks s end es
       → Blocks s at (from at end Open ∷ es)

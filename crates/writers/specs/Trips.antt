@@ -1,4 +1,4 @@
--- What the round trips speak of: a block as columns by the layout, and what a day asks of a block that a writer did not.
+-- What the round trips speak of: a block as columns by the layout, and what a day asks of a block beyond what a writer does.
 use Prim.Native.Nat.{ℕ, _<_}
 use mathlib.Core.Path.{_≡_}
 use mathlib.Core.Bool.{true}

@@ -43,13 +43,14 @@ writeEndOf room = roomFor endLength room
 abbrev pub EndWritten : EndRecord → List ℕ → Answer → List ℕ → Type 0
 EndWritten e entry r exit = Wrote (writeEndOf (length entry)) (endBytes e) entry r exit
 
--- block: 15, 4, 5, per unit 6, 7, 8, 9 at its index, then 12
+-- a group: 4, 5
 unfoldable pub groupChecks : ℕ → ℕ → Reply ℕ
 groupChecks quarter units = need (ltb quarter 100) 4 0 (need (unitCount units) 5 0 (is units))
 
 abbrev pub blockLength : ℕ → ℕ
 blockLength units = groupLength + unitLength * units
 
+-- block: 15, 4, 5, per unit 6, 7, 8, 9 at its index, then 12
 unfoldable pub writeBlockOf : ℕ → Columns → ℕ → Reply ℕ
 writeBlockOf quarter c room =
     need (even c) 15 0
