@@ -148,6 +148,20 @@ READINGS = [
     ("-3 with M+ -5, 2; P -10", [unit(-3, -10, high=-5), unit(2)], "absolute values"),
 ]
 
+RUN, AGE_LIMIT = 240, 120
+AGES = [  # name, minute made, and what the document tells
+    ("Age 120 of 120", 120, "passes"),
+    ("Age 121 of 120", 119, "refused 10 at 6"),
+    ("A minute ahead", 241, "refused 10 at 6"),
+]
+DATE_FOR_AGE = ("Made at minute 100, age 140 of 120", 100)
+
+
+def aged(made, wrong=None):
+    """What a group record made at a minute is told: its age is the run's minute less its own."""
+    age = made if wrong == "date for age" else RUN - made
+    return "passes" if 0 <= age <= AGE_LIMIT else "refused 10 at 6"
+
 
 def line(name, out):
     return name + ":" + "".join(f" {word} {' '.join(map(str, values))}" for word, values in out.items())
@@ -159,10 +173,16 @@ def lines():
         for word, values in told.items():
             assert out.get(word) == values, (name, word, out)
         yield line(name, out)
+    for name, made, told in AGES:
+        assert aged(made) == told, name
+        yield f"{name}: {told}"
     for name, units, wrong in READINGS:
         out = judge(units)
         assert judge(units, wrong) != out, (name, wrong, out)
         yield line(name, out)
+    name, made = DATE_FOR_AGE
+    assert aged(made, "date for age") != aged(made), name
+    yield f"{name}: {aged(made)}"
 
 
 def main(words):

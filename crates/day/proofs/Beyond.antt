@@ -6,13 +6,14 @@ use mathlib.Core.List.{List, [], _++_}
 use native.Mathlib.Omega.{arith}
 use borrow.Author.Tests.{lt-ltb, le-leb, eqb-true}
 use lib.Dec.{eqb}
-use lib.ListN.{length, take, length-take}
-use lib.Seq.{getD-take, take-append-le}
+use lib.ListN.{length, take}
+use lib.Seq.{take-append-le}
 use Rattle.numbers.specs.Bytes.{byteAt, be16, be32, signed32}
 use Rattle.numbers.specs.Choice.{pick}
 use Rattle.numbers.specs.Column.{column}
+use Rattle.numbers.proofs.Choices.{pick-ind}
 use Rattle.numbers.proofs.Columns.{column-ext}
-use Rattle.terms.specs.Reply.{Reply, is, need, next}
+use Rattle.terms.specs.Reply.{Reply, is, refused, need, next}
 use Rattle.terms.proofs.Replies.{need-is, next-is}
 use Rattle.records.specs.declared.day.DayRecord.{DayRecord}
 use Rattle.records.specs.declared.group.GroupRecord.{GroupRecord}
@@ -24,12 +25,13 @@ use Rattle.records.specs.Reading.{headOf, keyOf, dayFieldsOf, groupFieldsOf, en
 use Rattle.records.specs.Decoding.{unitN0, unitImplicit}
 use Rattle.records.proofs.Heads.{headed}
 use Rattle.records.proofs.Accepted.{accepted, block-end}
-use Rattle.records.proofs.Turns.{unit-long}
 use Rattle.records.proofs.Fields.{past}
 use Rattle.walk.specs.declared.table.State.{State}
+use Rattle.walk.specs.declared.table.State.the-variants.{Fresh, Open, Closed}
 use Rattle.walk.specs.declared.table.Head.{Head}
 use Rattle.walk.specs.Table.{bodyOf, headAt, headIn}
 use Rattle.walk.proofs.Coming.{Coming, theDay, aGroup, theEnd, Came}
+use Rattle.walk.proofs.Local.{Agree, agree}
 use Rattle.day.specs.declared.value.Day.{Day}
 use Rattle.day.specs.declared.check.Block.{Block}
 use Rattle.day.specs.declared.offer.Step.{Step}
@@ -39,20 +41,20 @@ use Rattle.day.specs.Blocks.{resultIn, blockKey, blockCount, blockResult
 use Rattle.day.specs.Offers.{headFor, dayTaken, blockTaken, endTaken, taken, offerOf, writtenOf}
 use Rattle.day.proofs.ByKind.{head-came}
 use Rattle.day.proofs.Outcomes.{taken-block}
+use Rattle.day.proofs.Read.{group-passed, units-inside}
 
 -- past a reading that was not refused, the whole is what comes after it
 onward : {A B : Type 0} (x : Reply A) (rest : A → Reply B) {a : A} {b : B} → x ≡ is a → rest a ≡ is b → next x rest ≡ is b
 unfolding next
 onward x rest e r = rw e r
 
--- t has the first n bytes of s
-record Agree (s t : List ℕ) (n : ℕ) : Type 0 where
-  pub long : n ≤ length t
-  pub same : (i : ℕ) → i < n → byteAt t i ≡ byteAt s i
-
-agree : (s t : List ℕ) (n : ℕ) → n ≤ length s → take n s ≡ take n t → Agree s t n
-agree s t n h e =
-    record { long = omega (arith, h, length-take n s, length-take n t, ap length e); same = λ i l. sym (getD-take n t i 0 l) ∙ ap (λ (x : List ℕ). byteAt x i) (sym e) ∙ getD-take n s i 0 l }
+-- no body is longer than a day record's
+body-short : (state : State) (kind : ℕ) → bodyOf state kind ≤ 11
+body-short Fresh kind = pick-ind (eqb kind 1) 11 0 (λ n. n ≤ 11) (λ _. omega arith) (λ _. omega arith)
+body-short Open kind =
+    pick-ind (eqb kind 2) 9 _ (λ n. n ≤ 11) (λ _. omega arith)
+    (λ _. pick-ind (eqb kind 15) 4 0 (λ n. n ≤ 11) (λ _. omega arith) (λ _. omega arith))
+body-short Closed kind = omega arith
 
 module _ (s t : List ℕ) (n : ℕ) (a : Agree s t n) where
   -- a value that lies in those bytes, and so a record
@@ -158,15 +160,67 @@ module _ (s t : List ℕ) (n : ℕ) (a : Agree s t n) where
       same : {X : Type 0} (f : UnitRecord → X) → column count (λ i. f (unitIn t i)) ≡ column count (λ i. f (unitIn s i))
       same f = column-ext _ _ count (λ i l. ap f (unit-same (10 + 26 * i) (omega arith)))
 
--- units that were read end in the bytes
-units-inside : (s : List ℕ) (at floor run limit count : ℕ) {end : ℕ} → at ≤ length s → unitsOf s at floor run limit count ≡ is end → end ≤ length s
-unfolding unitsOf
-units-inside s at floor run limit zero {end} h e =
-    let v : end ≡ at = cc e in
-    omega arith
-units-inside s at floor run limit (suc left) h e =
-    let a = next-is _ _ e in
-    units-inside s (at + 26) (a .0 .number + 1) run limit left (unit-long s at floor run limit (a .1 .0)) (a .1 .1)
+  -- where s has those bytes too, what lies in them is read alike
+  module _ (far : n ≤ length s) where
+    unit-alike : (at floor run limit : ℕ) → at + 26 ≤ n → unitOf t at floor run limit ≡ unitOf s at floor run limit
+    unfolding unitOf unitFieldsOf headOf need
+    unit-alike at floor run limit h =
+        simp (
+          lt-ltb at (length s) (omega arith),
+          lt-ltb at (length t) (omega (arith, a .long)),
+          le-leb (at + 26) (length s) (omega arith),
+          le-leb (at + 26) (length t) (omega (arith, a .long)),
+          a .same at (omega arith),
+          unit-same at h,
+        )
+
+    units-alike : (at floor run limit count : ℕ) → at + 26 * count ≤ n → unitsOf t at floor run limit count ≡ unitsOf s at floor run limit count
+    unfolding unitsOf next
+    units-alike at floor run limit zero h = refl
+    units-alike at floor run limit (suc left) h =
+        rw (unit-alike at floor run limit (omega arith)) (go (unitOf s at floor run limit) (λ u. units-alike (at + 26) (u .number + 1) run limit left (omega arith)))
+      where
+        go : (x : Reply UnitRecord)
+            → ((u : UnitRecord) → unitsOf t (at + 26) (u .number + 1) run limit left ≡ unitsOf s (at + 26) (u .number + 1) run limit left)
+            → next x (λ u. unitsOf t (at + 26) (u .number + 1) run limit left) ≡ next x (λ u. unitsOf s (at + 26) (u .number + 1) run limit left)
+        go (is u) f = f u
+        go (refused number place) f = refl
+
+    module _ (most : 1674 ≤ n) where
+      fields-alike : (day : Day) → blockFieldsOf day t ≡ blockFieldsOf day s
+      unfolding blockFieldsOf next
+      fields-alike day = rw (group-kept (day .«record») (day .last) (omega arith)) (go (groupFieldsOf s (day .«record») (day .last)) refl)
+        where
+          go : (x : Reply GroupRecord) → groupFieldsOf s (day .«record») (day .last) ≡ x
+              → next x (λ g. next (unitsOf t 10 0 (day .«record» .run) (day .«record» .«margin_limit») (g .count)) λ end. is (blockOf g end))
+              ≡ next x (λ g. next (unitsOf s 10 0 (day .«record» .run) (day .«record» .«margin_limit») (g .count)) λ end. is (blockOf g end))
+          go (is g) e =
+              let p = group-passed s (day .«record») (day .last) e in
+              rw (units-alike 10 0 (day .«record» .run) (day .«record» .«margin_limit») (g .count) (omega (arith, p .most, ap (λ (x : GroupRecord). x .count) (p .value))))
+          go (refused number place) e = refl
+
+      block-alike : (day : Day) (room : ℕ) → blockTaken day t room ≡ blockTaken day s room
+      unfolding blockTaken
+      block-alike day room = rw (fields-alike day)
+
+      taken-alike : (day : Day) (room kind : ℕ) → taken day t room kind ≡ taken day s room kind
+      taken-alike day room kind = rw (day-kept (omega arith), block-alike day room, end-kept day (omega arith))
+
+      head-alike : (day : Day) → headFor day t ≡ headFor day s
+      unfolding headFor headIn need
+      head-alike day =
+          let b = body-short (day .state) (byteAt s 0) in
+          let x = le-leb (headAt s 0 (day .state) .end) (length s) (omega arith) in
+          let y = le-leb (headAt s 0 (day .state) .end) (length t) (omega (arith, a .long)) in
+          rw (lt-ltb 0 (length s) (omega arith), lt-ltb 0 (length t) (omega (arith, a .long)), a .same 0 (omega arith), x, y)
+
+      offer-alike : (day : Day) (room : ℕ) → offerOf day t room ≡ offerOf day s room
+      unfolding offerOf next
+      offer-alike day room = rw (head-alike day) (go (headFor day s))
+        where
+          go : (x : Reply Head) → next x (λ head. taken day t room (head .kind)) ≡ next x (λ head. taken day s room (head .kind))
+          go (is head) = taken-alike day room (head .kind)
+          go (refused number place) = refl
 
 -- what is used has its first record, and lies in the bytes
 record Lies (first used long : ℕ) : Type 0 where
@@ -248,6 +302,11 @@ module _ (day : Day) (s : List ℕ) (room : ℕ) {step : Step} (e : offerOf day 
       let l = taken-lies day s room (eqb (x .0 .kind) 1) (eqb (x .0 .kind) 2) (omega (arith, m .long)) (x .1 .1) in
       record { from = omega (arith, l .from); inside = l .inside }
 
+  some : 0 < step .used
+  some =
+      let x = head-taken in
+      omega (arith, head-came day s (x .0) (x .1 .0) .end, offer-lies .from)
+
   module _ (t : List ℕ) (a : Agree s t (step .used)) where
     offer-kept : offerOf day t room ≡ is step
     unfolding offerOf
@@ -256,11 +315,6 @@ module _ (day : Day) (s : List ℕ) (room : ℕ) {step : Step} (e : offerOf day 
         let n = head-length s (day .state) (x .0) (head-came day s (x .0) (x .1 .0)) in
         onward _ _ (head-kept s t _ a day (offer-lies .from) (x .1 .0))
         (taken-kept day s room t a (eqb (x .0 .kind) 1) (eqb (x .0 .kind) 2) (omega (arith, offer-lies .from)) (x .1 .1))
-
-    some : 0 < step .used
-    some =
-        let x = head-taken in
-        omega (arith, head-came day s (x .0) (x .1 .0) .end, offer-lies .from)
 
     written-kept : writtenOf t ≡ writtenOf s
     written-kept = rw (a .same 0 some) (go (eqb (byteAt s 0) groupKind) refl)
@@ -271,12 +325,23 @@ module _ (day : Day) (s : List ℕ) (room : ℕ) {step : Step} (e : offerOf day 
             ap (λ (g : GroupRecord). resultIn t (keyOf g) (g .count)) (group-same s t _ a (omega arith)) ∙ result-kept s t _ a (blockKey s) (blockCount s) (omega arith)
         go false q = refl
 
+-- what was taken has bytes, and lies in those that were offered
+pub used : (day : Day) (s : List ℕ) (room : ℕ) {step : Step} → offerOf day s room ≡ is step → 0 < step .used
+used day s room e = some day s room e
+
+pub inside : (day : Day) (s : List ℕ) (room : ℕ) {step : Step} → offerOf day s room ≡ is step → step .used ≤ length s
+inside day s room e = offer-lies day s room e .inside
+
 pub local : (day : Day) (s t : List ℕ) (room : ℕ) {step : Step} → offerOf day s room ≡ is step → take (step .used) s ≡ take (step .used) t
     → (offerOf day t room ≡ is step) × (writtenOf t ≡ writtenOf s)
 local day s t room {step} e same =
-    let a = agree s t (step .used) (offer-lies day s room e .inside) same in
+    let a = agree s t (step .used) (inside day s room e) same in
     (offer-kept day s room e t a, written-kept day s room e t a)
 
 -- what was taken is taken whatever bytes follow
 pub unread : (day : Day) (s t : List ℕ) (room : ℕ) {step : Step} → offerOf day s room ≡ is step → (offerOf day (s ++ t) room ≡ is step) × (writtenOf (s ++ t) ≡ writtenOf s)
-unread day s t room {step} e = local day s (s ++ t) room e (sym (take-append-le (step .used) s t (offer-lies day s room e .inside)))
+unread day s t room {step} e = local day s (s ++ t) room e (sym (take-append-le (step .used) s t (inside day s room e)))
+
+-- with as many bytes at hand as the longest block has, whatever follows them changes no reply
+pub settled : (day : Day) (s t : List ℕ) (room : ℕ) → 1674 ≤ length s → offerOf day (s ++ t) room ≡ offerOf day s room
+settled day s t room h = offer-alike s (s ++ t) 1674 (agree s (s ++ t) 1674 h (sym (take-append-le 1674 s t h))) h (omega arith) day room

@@ -9,6 +9,7 @@ pub mod UnitsTaken
 pub mod ByKind
 pub mod Outcomes
 pub mod Beyond
+pub mod Walking
 pub mod ReadBack
 pub mod Sayable
 pub mod Written

@@ -1,5 +1,5 @@
 -- What holds of a block that passed its checks: its values are the layouts', and each is in its range.
-use Prim.Native.Nat.{ℕ, _+_, _*_, _≤_, _<_}
+use Prim.Native.Nat.{ℕ, zero, suc, _+_, _*_, _≤_, _<_}
 use mathlib.Core.Path.{_≡_, _∙_}
 use mathlib.Core.Bool.{true}
 use mathlib.Core.List.{List}
@@ -24,10 +24,21 @@ use Rattle.records.specs.Layouts.{groupAt}
 use Rattle.records.specs.Reading.{follows, groupFieldsOf, unitsOf, unitIn}
 use Rattle.records.specs.Decoding.{unitN0}
 use Rattle.records.proofs.Accepted.{unit-in, block-end}
+use Rattle.records.proofs.Turns.{unit-long}
 use Rattle.day.specs.declared.value.Day.{Day}
 use Rattle.day.specs.declared.check.Block.{Block}
 use Rattle.day.specs.Checking.{blockOf, blockFieldsOf}
 use Rattle.day.specs.Blocks.{groupIn, blockKey, blockCount, blockGroup}
+
+-- units that were read end in the bytes
+pub units-inside : (s : List ℕ) (at floor run limit count : ℕ) {end : ℕ} → at ≤ length s → unitsOf s at floor run limit count ≡ is end → end ≤ length s
+unfolding unitsOf
+units-inside s at floor run limit zero {end} h e =
+    let v : end ≡ at = cc e in
+    omega arith
+units-inside s at floor run limit (suc left) h e =
+    let a = next-is _ _ e in
+    units-inside s (at + 26) (a .0 .number + 1) run limit left (unit-long s at floor run limit (a .1 .0)) (a .1 .1)
 
 -- a group record whose fields passed
 pub record GroupPassed (s : List ℕ) (last : Last) (g : GroupRecord) : Type 0 where

@@ -9,49 +9,36 @@ use lib.ListN.{length, getD}
 use Rattle.numbers.specs.Column.{at}
 use Rattle.numbers.specs.Sum.{sumZ}
 use Rattle.numbers.proofs.Integers.{zarith, neg, minus}
-use Rattle.numbers.proofs.Sums.{sum64-within}
 use Rattle.numbers.proofs.Columns.{column-length, column-at}
 use Rattle.group.specs.Steps.{reasonOf}
 use Rattle.group.specs.Group.{Group, position, n1, n2, n3}
 use Rattle.group.specs.Columns.{sumsOf, sumsBy}
 use Rattle.group.specs.Asked.{Judged}
-use Rattle.group.proofs.Accepting.{Accepted}
-use Rattle.group.proofs.Judging.{position-within, n1-classed, n2-few, n2-small, n3-few, n3-small}
+use Rattle.group.proofs.Accepting.{Accepted, judged-by}
+use Rattle.group.proofs.Judging.{n1-classed, n2-small, n3-small, s1-within, s2-within, s3-within}
 use Rattle.records.specs.declared.key.Key.{Key}
 use Rattle.records.specs.declared.unit_result.UnitResult.{UnitResult}
 use Rattle.records.specs.Layouts.{groupResultAt, unitResultAt}
 use Rattle.records.specs.Reading.{unitIn}
 use Rattle.records.specs.Decoding.{unitN0, unitImplicit, numbersIn, implicitsIn}
-use Rattle.writers.specs.Results.{resultOf}
+use Rattle.writers.specs.Results.{resultOf, resultFrom}
 use Rattle.writers.proofs.Fields.{HeldGroupResult, HeldUnitResult}
 use Rattle.writers.proofs.Back.{results-back}
 use Rattle.day.specs.Blocks.{reasonColumn, groupResult, unitResults, resultIn, blockKey, blockCount, blockGroup}
 
 -- what an accepted group is judged by
-judged : (g : Group) → Accepted g → Judged g (g .n0) (g .n0) (g .n0)
-judged g a =
-    record {
-      few = a .few;
-      level = a .level;
-      known = λ i. a .sound i .known;
-      firsts = refl;
-      seconds = refl;
-      thirds = refl;
-      n0-small = λ i. a .sound i .n0-small;
-      pc-small = λ i. a .sound i .pc-small;
-      down-small = λ i. a .sound i .down-small;
-      up-small = λ i. a .sound i .up-small;
-    }
+judged : (g : Group) → Accepted g → Judged (position g) (g .n0) (g .stepDown) (g .stepUp) (g .class) (g .n0) (g .n0) (g .n0)
+judged g a = judged-by g a refl refl refl
 
 module _ (g : Group) (a : Accepted g) where
   group-held : (key : Key) (count : ℕ) → HeldGroupResult (groupResult key count (sumsOf g))
   unfolding groupResult sumsBy
   group-held key count =
       let j = judged g a in
-      let p = position-within g j in
-      let s1 = sum64-within (n1 g) (n1-classed g j .few) (n1-classed g j .small) in
-      let s2 = sum64-within (n2 g) (n2-few g j) (n2-small g j) in
-      let s3 = sum64-within (n3 g) (n3-few g j) (n3-small g j) in
+      let p = j .position-small in
+      let s1 = s1-within j in
+      let s2 = s2-within j in
+      let s3 = s3-within j in
       record {
         p = omega zarith;
         s1 = omega zarith;
@@ -61,13 +48,13 @@ module _ (g : Group) (a : Accepted g) where
       }
 
   unit-held : (number : List ℕ) (implicit : List Bool) (i : ℕ) → HeldUnitResult (resultOf (unitResults number implicit g) i)
-  unfolding resultOf
+  unfolding resultFrom
   unit-held number implicit i =
       let j = judged g a in
       let w0 = a .sound i .n0-small in
-      let w1 = n1-classed g j .small i in
-      let w2 = n2-small g j i in
-      let w3 = n3-small g j i in
+      let w1 = n1-classed j .small i in
+      let w2 = n2-small j i in
+      let w3 = n3-small j i in
       record { n0 = omega zarith; n1 = omega zarith; n2 = omega zarith; n3 = omega zarith }
 
 -- the result of the unit of an index, by the layouts' values and the steps
@@ -92,7 +79,7 @@ reason-at implicit n0 x1 x2 x3 down up i l =
 
 module _ (s : List ℕ) (i : ℕ) (l : i < blockCount s) where
   unit-values : resultOf (unitResults (numbersIn s (blockCount s)) (implicitsIn s (blockCount s)) (blockGroup s)) i ≡ unitResult s i
-  unfolding resultOf
+  unfolding resultFrom
   unit-values =
       let count = blockCount s in
       let n : length (blockGroup s .n0) ≡ count = column-length _ count in
@@ -113,7 +100,7 @@ module _ (s rest exit : List ℕ) (accepted : Accepted (blockGroup s)) (so : exi
   both-back =
       results-back (groupResult (blockKey s) (blockCount s) (sumsOf (blockGroup s)))
       (unitResults (numbersIn s (blockCount s)) (implicitsIn s (blockCount s)) (blockGroup s)) rest exit so
-      (record { group = group-held (blockGroup s) accepted (blockKey s) (blockCount s); unit = λ i _. unit-held (blockGroup s) accepted _ _ i })
+      (record { group = group-held (blockGroup s) accepted (blockKey s) (blockCount s); unit = λ i _. unit-held (blockGroup s) accepted (numbersIn s (blockCount s)) (implicitsIn s (blockCount s)) i })
 
   pub group-back : groupResultAt exit 0 ≡ groupResult (blockKey s) (blockCount s) (sumsOf (blockGroup s))
   group-back = both-back .0

@@ -7,30 +7,44 @@ use borrow.Author.Tests.{lt-leb, le-leb}
 use lib.Dec.{leb}
 use lib.ListN.{length}
 use Rattle.numbers.specs.Bytes.{laidAt}
+use Rattle.numbers.specs.Sum.{sumZ}
 use Rattle.terms.specs.Reply.{Reply, is, refused, need, next}
 use Rattle.terms.specs.Refusals.{refusal}
 use Rattle.terms.specs.declared.refusal.Refusal.{Refusal}
 use Rattle.terms.specs.declared.refusal.Why.the-variants as W
-use Rattle.terms.proofs.Replies.{need-is, next-is}
+use Rattle.terms.proofs.Replies.{never, need-is, next-is}
 use Rattle.records.specs.declared.group.GroupRecord.{GroupRecord}
 use Rattle.records.specs.Reading.{keyOf, groupFieldsOf, unitsOf}
+use Rattle.records.specs.Decoding.{pcIn}
 use Rattle.day.specs.declared.value.Day.{Day}
 use Rattle.day.specs.declared.check.Block.{Block}
 use Rattle.day.specs.declared.check.BlockAnswer.the-variants as B
+use Rattle.day.specs.declared.result.Units.{Units}
 use Rattle.day.specs.declared.offer.Step.{Step}
 use Rattle.day.specs.declared.offer.Offered.the-variants as O
 use Rattle.day.specs.Days.{counted}
 use Rattle.day.specs.Checking.{blockOf, blockFieldsOf}
-use Rattle.day.specs.Blocks.{resultIn, blockResult, unitsTaken, laidAfter, Taking}
+use Rattle.day.specs.Blocks.{resultIn, blockResult, unitsTaken, laidAfter, unitsRead, Taking}
 use Rattle.day.specs.Offers.{blockTaken, Offering}
 use Rattle.day.proofs.Read.{group-passed}
 use Rattle.day.proofs.Taking.{refuses-room, takes-room, result-length}
 
+-- a unit of a block was refused
+units-refused : (s : List ℕ) (count run limit : ℕ) (f : Refusal) → unitsRead s count run limit ≡ refusal f → unitsOf s 10 0 run limit count ≡ refusal f
+unfolding unitsRead next
+units-refused s count run limit f = go (unitsOf s 10 0 run limit count)
+  where
+    go : (x : Reply ℕ) → _≡_ {A = Reply Units} (next x λ end. is (record { end = end; p = record { 0 = sumZ (pcIn s count) } })) (refusal f) → x ≡ refusal f
+    go (is end) e = never (sym e)
+    go (refused n p) e = cc e
+
 module _ (s : List ℕ) (group : GroupRecord) (run limit : ℕ) (bytes entry : List ℕ) where
-  pub stopped : (f : Refusal) → unitsOf s 10 0 run limit (group .count) ≡ refusal f
+  pub stopped : (f : Refusal) → unitsRead s (group .count) run limit ≡ refusal f
       → Taking (unitsTaken s group run limit (length entry)) bytes entry (B.Refused f) entry
   unfolding unitsTaken laidAfter next
-  stopped f e = record { replied = rw e; room = rw e }
+  stopped f e =
+      let h = units-refused s (group .count) run limit f e in
+      record { replied = rw h; room = rw h }
 
   module _ {end : ℕ} (e : unitsOf s 10 0 run limit (group .count) ≡ is end) where
     pub crowded : length entry < 27 + 20 * group .count

@@ -43,7 +43,7 @@ module _ (day : Day) (s : List ℕ) (possibly : possible day ≡ true) where
       simp (there, possibly, head-of s 0 (day .state) kind may (h .first), fixed, e)
 
   module _ (opens : day .state ≡ Open) where
-    block-comes : {end : ℕ} → headOf s 0 2 10 ≡ is end → headFor day s ≡ is (record { kind = 2; end = end })
+    pub block-comes : {end : ℕ} → headOf s 0 2 10 ≡ is end → headFor day s ≡ is (record { kind = 2; end = end })
     block-comes e = comes 2 10 (rw opens) (rw opens) (omega arith) e
 
     -- a block whose fields pass is taken where its result has room

@@ -1,16 +1,18 @@
 -- "House records": the result of a block, by "The steps" over the values that the layouts give.
-use Prim.Native.Nat.{ℕ, _≤_}
+use Prim.Native.Nat.{ℕ, _+_, _*_, _≤_}
 use mathlib.Core.Path.{_≡_}
 use mathlib.Core.Bool.{Bool, false}
 use mathlib.Core.List.{List}
-use lib.Dec.{leb}
+use lib.Dec.{eqb, leb}
 use lib.IntN.{ℤ}
 use lib.ListN.{length, getD}
 use Rattle.numbers.specs.Bytes.{laidAt}
+use Rattle.numbers.specs.Choice.{pick}
 use Rattle.numbers.specs.Column.{column, at}
+use Rattle.numbers.specs.Sum.{sumZ}
 use Rattle.terms.specs.Reply.{Reply, is, refused, need, next}
-use Rattle.terms.specs.Refusals.{answer}
-use Rattle.terms.specs.declared.refusal.Answer.{Answer}
+use Rattle.terms.specs.Refusals.{refusal}
+use Rattle.terms.specs.declared.refusal.Refusal.{Refusal}
 use Rattle.group.specs.Steps.{reasonOf}
 use Rattle.group.specs.Group.{Group, units, n1, n2, n3}
 use Rattle.group.specs.Columns.{columns, sumsOf}
@@ -19,12 +21,16 @@ use Rattle.group.specs.declared.judge.Sums.{Sums}
 use Rattle.records.specs.declared.group.GroupRecord.{GroupRecord}
 use Rattle.records.specs.declared.key.Key.{Key}
 use Rattle.records.specs.declared.group_result.GroupResult.{GroupResult}
-use Rattle.records.specs.Layouts.{groupLength, groupAt}
-use Rattle.records.specs.Reading.{keyOf, unitsOf}
-use Rattle.records.specs.Decoding.{numbersIn, classesIn, implicitsIn, n0In, pcIn, stepDownIn, stepUpIn, Decoded}
+use Rattle.records.specs.Answers.{noRefusal}
+use Rattle.records.specs.Layouts.{groupLength, unitLength, groupAt}
+use Rattle.records.specs.Reading.{keyOf, unitsOf, unitIn}
+use Rattle.records.specs.Decoding.{unitImplicit, numbersIn, classesIn, implicitsIn, n0In, pcIn, stepDownIn, stepUpIn}
 use Rattle.writers.specs.Results.{Results, results, resultLength, resultBytes}
 use Rattle.day.specs.declared.check.Block.{Block}
 use Rattle.day.specs.declared.check.BlockAnswer.{BlockAnswer}
+use Rattle.day.specs.declared.result.Units.{Units}
+use Rattle.day.specs.declared.result.UnitsAnswer.{UnitsAnswer}
+use Rattle.day.specs.declared.result.UnitsAnswer.the-variants as U
 use Rattle.day.specs.Checking.{blockOf, blockReply}
 
 -- the first so many units of a block as the columns of a group
@@ -91,9 +97,15 @@ laidAfter (is block) bytes room = laidAt room 0 bytes
 laidAfter (refused number place) bytes room = room
 
 -- ---- what the inner functions ask for, and what they leave
--- the seven columns that reasons are told from, and theirs, are of one length
-pub record Told (implicit : List Bool) (n0 n1 n2 n3 stepDown stepUp : List ℤ) (reason : List ℕ) : Type 0 where
-  pub implicits : length implicit ≡ length n0
+-- which units a column marks with 1, and the marks of the units whose nomination is implicit
+unfoldable pub marked : List ℕ → List Bool
+marked mark = column (length mark) λ i. eqb (getD mark i 0) 1
+
+abbrev pub marksIn : List ℕ → ℕ → List ℕ
+marksIn s count = column count λ i. pick (unitImplicit (unitIn s i)) 1 0
+
+-- the six columns that reasons are told from, and theirs, are of one length
+pub record Told (n0 n1 n2 n3 stepDown stepUp : List ℤ) (reason : List ℕ) : Type 0 where
   pub firsts : length n1 ≡ length n0
   pub seconds : length n2 ≡ length n0
   pub thirds : length n3 ≡ length n0
@@ -102,41 +114,60 @@ pub record Told (implicit : List Bool) (n0 n1 n2 n3 stepDown stepUp : List ℤ) 
   pub reasons : length reason ≡ length n0
 
 -- columns of exactly so many entries, of which a group has at most 64
-pub record UnitRoom (count : ℕ) (number class : List ℕ) (implicit : List Bool) (n0 pc stepDown stepUp : List ℤ) : Type 0 where
+pub record UnitRoom (count : ℕ) (class mark : List ℕ) (n0 stepDown stepUp : List ℤ) : Type 0 where
   pub few : count ≤ 64
-  pub numbers : length number ≡ count
   pub classes : length class ≡ count
-  pub implicits : length implicit ≡ count
+  pub marks : length mark ≡ count
   pub nominations : length n0 ≡ count
-  pub positions : length pc ≡ count
   pub downs : length stepDown ≡ count
   pub ups : length stepUp ≡ count
 
-pub record StepRoom (count : ℕ) (n1 n2 n3 : List ℤ) (reason : List ℕ) : Type 0 where
+pub record StepRoom (count : ℕ) (n1 n2 n3 : List ℤ) : Type 0 where
   pub firsts : length n1 ≡ count
   pub seconds : length n2 ≡ count
   pub thirds : length n3 ≡ count
-  pub reasons : length reason ≡ count
 
 pub record Working
-    (count : ℕ) (number class : List ℕ) (implicit : List Bool) (n0 pc stepDown stepUp n1 n2 n3 : List ℤ) (reason : List ℕ) : Type 0 where
-  pub values : UnitRoom count number class implicit n0 pc stepDown stepUp
-  pub steps : StepRoom count n1 n2 n3 reason
+    (count : ℕ) (class : List ℕ) (n0 stepDown stepUp n1 n2 n3 : List ℤ) (reason : List ℕ) : Type 0 where
+  pub values : UnitRoom count class reason n0 stepDown stepUp
+  pub steps : StepRoom count n1 n2 n3
 
--- the units of a block are read, and where none is refused the columns are theirs
+-- the columns are those of the first so many units of a block
+pub record Decoded (s : List ℕ) (count : ℕ) (class mark : List ℕ) (n0 stepDown stepUp : List ℤ) : Type 0 where
+  pub classes : class ≡ classesIn s count
+  pub marks : mark ≡ marksIn s count
+  pub nominations : n0 ≡ n0In s count
+  pub downs : stepDown ≡ stepDownIn s count
+  pub ups : stepUp ≡ stepUpIn s count
+
+-- an answer of units as a reply, and its refusal
+abbrev pub unitsReply : UnitsAnswer → Reply Units
+unitsReply (U.Is u) = is u
+unitsReply (U.Refused r) = refusal r
+
+abbrev pub unitsRefusal : UnitsAnswer → Refusal
+unitsRefusal (U.Is u) = noRefusal
+unitsRefusal (U.Refused r) = r
+
+-- the units of a block are read: where they end, and P
+unfoldable pub unitsRead : List ℕ → ℕ → ℕ → ℕ → Reply Units
+unitsRead s count run limit =
+    next (unitsOf s groupLength 0 run limit count) λ end.
+    is (record { end = end; p = record { 0 = sumZ (pcIn s count) } })
+
+-- the answer is the right one, and where no unit is refused the columns are theirs
 pub record UnitsRead
-    (s : List ℕ) (count run limit : ℕ) (r : Answer) (number class : List ℕ) (implicit : List Bool) (n0 pc stepDown stepUp : List ℤ) : Type 0 where
-  pub replied : answer r ≡ unitsOf s groupLength 0 run limit count
-  pub decoded : (end : ℕ) → answer r ≡ is end → Decoded s count number class implicit n0 pc stepDown stepUp
+    (s : List ℕ) (count run limit : ℕ) (r : UnitsAnswer) (class mark : List ℕ) (n0 stepDown stepUp : List ℤ) : Type 0 where
+  pub replied : unitsReply r ≡ unitsRead s count run limit
+  pub decoded : (u : Units) → unitsReply r ≡ is u → Decoded s count class mark n0 stepDown stepUp
 
--- a group of so many units that may be judged, and room for its result
+-- a block of so many units that may be judged, its columns, and room for its result
 pub record Writable
-    (count : ℕ) (number : List ℕ) (implicit : List Bool) (g : Group) (n1 n2 n3 : List ℤ) (reason room : List ℕ) : Type 0 where
-  pub judged : Judged g n1 n2 n3
-  pub counted : units g ≡ count
-  pub numbers : length number ≡ count
-  pub implicits : length implicit ≡ count
-  pub reasons : length reason ≡ count
+    (s : List ℕ) (count : ℕ) (p : ℤ) (class : List ℕ) (n0 stepDown stepUp n1 n2 n3 : List ℤ) (reason room : List ℕ) : Type 0 where
+  pub judged : Judged p n0 stepDown stepUp class n1 n2 n3
+  pub decoded : Decoded s count class reason n0 stepDown stepUp
+  pub position : p ≡ sumZ (pcIn s count)
+  pub bytes : groupLength + unitLength * count ≤ length s
   pub enough : resultLength count ≤ length room
 
 -- the answer and the room are the right ones

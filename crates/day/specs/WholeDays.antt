@@ -1,9 +1,13 @@
 -- "Another party's block": a whole day, offered part by part from a fresh day on.
-use Prim.Native.Nat.{ℕ}
+use Prim.Native.Nat.{ℕ, _+_}
 use mathlib.Core.Path.{_≡_}
 use mathlib.Core.List.{List, [], _∷_, _++_}
 use lib.ListN.{length, take}
+use Rattle.numbers.specs.Bytes.{byteAt}
 use Rattle.walk.specs.declared.table.State.the-variants.{Closed}
+use Rattle.walk.specs.declared.step.Extent.{Extent}
+use Rattle.walk.specs.Walk.{stateAfter}
+use Rattle.walk.specs.Extents.{from}
 use Rattle.day.specs.declared.value.Day.{Day}
 use Rattle.day.specs.declared.offer.Step.{Step}
 use Rattle.day.specs.declared.offer.Offered.the-variants.{Taken}
@@ -29,3 +33,12 @@ pub record AcceptedDay (day : List ℕ) (blocks : List Part) (end : List ℕ) : 
   pub left : Day
   pub run : Run fresh (part day [] ∷ blocks ++ (part end [] ∷ [])) left
   pub closed : left .state ≡ Closed
+
+-- the bytes of a day that lies whole, and the extent of each of its parts
+abbrev pub joined : List Part → List ℕ
+joined [] = []
+joined (p ∷ ps) = p .bytes ++ joined ps
+
+abbrev pub extentsFrom : ℕ → List Part → List Extent
+extentsFrom at [] = []
+extentsFrom at (p ∷ ps) = from at (at + length (p .bytes)) (stateAfter (byteAt (p .bytes) 0)) ∷ extentsFrom (at + length (p .bytes)) ps

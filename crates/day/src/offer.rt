@@ -73,8 +73,8 @@ fn open_day(day: Day, s: &[u8]) -> Offered
     })
 }
 
-// A block's result is written, and the block is counted.
-fn take_block(day: Day, s: &[u8], room: &mut [u8]) -> Offered
+// A block whose head came: its result is written, and the block is counted.
+pub fn take_block(day: Day, s: &[u8], room: &mut [u8]) -> Offered
     requires { ⌜ (groupLength ≤ length (now s)) × (day .groups < 4294967295) ⌝ }
     ensures { λ r. ⌜ Offering (blockTaken day (now (s .entry)) (length (now (room .entry)))) (blockResult (now (s .entry))) day (now (room .entry)) r (now (room .exit)) ⌝ }
 {

@@ -3,30 +3,30 @@ ghost use mathlib.Core.Path.{_≡_};
 ghost use Prim.Native.Nat.{_≤_};
 ghost use lib.ListN.{length};
 ghost use Rattle.numbers.specs.Bytes.{laidAt};
-ghost use Rattle.group.specs.Columns.{columns};
+ghost use Rattle.records.specs.Layouts.{groupLength};
 ghost use Rattle.records.specs.Reading.{keyOf};
-ghost use Rattle.day.specs.Blocks.{reasonColumn, groupResult, resultBy, resultIn, unitsTaken, Told, UnitRoom, Working, UnitsRead, Writable, Taking};
+ghost use Rattle.day.specs.Blocks.{reasonColumn, marked, groupResult, resultIn, unitsTaken, unitsRefusal, Told, UnitRoom, Working, UnitsRead, Writable, Taking};
 use crate::check::Block;
 use crate::check::BlockAnswer;
 use group::judge::Sums;
 use group::judge::judged;
 use group::unit::reason;
+use records::field::no_refusal;
 use records::group::GroupRecord;
 use records::group_result::GroupResult;
 use records::key::Key;
 use records::unit::UnitRecord;
 use records::units::UnitAnswer;
 use records::units::unit_at;
+use terms::quantity::Position;
 use terms::quantity::considered;
 use terms::quantity::is_implicit;
-use terms::refusal::Answer;
 use terms::refusal::Refusal;
 use terms::refusal::Why;
 use writers::results::lay_results;
 
-// The reason of every unit.
+// The reason of every unit, in the place of the mark that tells whether its nomination is implicit.
 fn reasons(
-    implicit: &[bool],
     n0: &[i32],
     n1: &[i32],
     n2: &[i32],
@@ -35,13 +35,14 @@ fn reasons(
     step_up: &[i32],
     reasons: &mut [u8],
 )
-    requires { ⌜ Told (now implicit) (now n0) (now n1) (now n2) (now n3) (now «step_down») (now «step_up») (now reasons) ⌝ }
-    ensures { λ _. ⌜ now (reasons .exit) ≡ reasonColumn (now (implicit .entry)) (now (n0 .entry)) (now (n1 .entry)) (now (n2 .entry)) (now (n3 .entry)) (now («step_down» .entry)) (now («step_up» .entry)) ⌝ }
+    requires { ⌜ Told (now n0) (now n1) (now n2) (now n3) (now «step_down») (now «step_up») (now reasons) ⌝ }
+    ensures { λ _. ⌜ now (reasons .exit) ≡ reasonColumn (marked (now (reasons .entry))) (now (n0 .entry)) (now (n1 .entry)) (now (n2 .entry)) (now (n3 .entry)) (now («step_down» .entry)) (now («step_up» .entry)) ⌝ }
 {
     let mut i = 0;
     while i < n0.len() {
+        let implicit = reasons[i] == 1;
         reasons[i] = reason(
-            implicit[i],
+            implicit,
             n0[i],
             n1[i],
             n2[i],
@@ -70,60 +71,81 @@ fn group_result(key: Key, count: u8, sums: Sums) -> GroupResult
     )
 }
 
-// The units of a block one after another, their values in lent columns: the first refusal, or where they end.
+// The units of a block that passed: where they end, and P.
+struct Units {
+    end: usize,
+    p: Position,
+}
+
+enum UnitsAnswer {
+    Is(Units),
+    Refused(Refusal),
+}
+
+impl UnitsAnswer {
+    fn refusal(self) -> Refusal
+        ensures { λ r. ⌜ r ≡ unitsRefusal self ⌝ }
+    {
+        match self {
+            UnitsAnswer::Is(_) => no_refusal(),
+            UnitsAnswer::Refused(r) => r,
+        }
+    }
+}
+
+// The units of a block one after another, what the steps need of them in lent columns: the first refusal, or where they end and P.
 fn units_into(
     s: &[u8],
     count: usize,
     run: u32,
     limit: u16,
-    number: &mut [u16],
     class: &mut [u8],
-    implicit: &mut [bool],
+    mark: &mut [u8],
     n0: &mut [i32],
-    pc: &mut [i32],
     step_down: &mut [i32],
     step_up: &mut [i32],
-) -> Answer
-    requires { ⌜ UnitRoom count (now number) (now class) (now implicit) (now n0) (now pc) (now «step_down») (now «step_up») ⌝ }
-    ensures { λ r. ⌜ UnitsRead (now (s .entry)) count run limit r (now (number .exit)) (now (class .exit)) (now (implicit .exit)) (now (n0 .exit)) (now (pc .exit)) (now («step_down» .exit)) (now («step_up» .exit)) ⌝ }
+) -> UnitsAnswer
+    requires { ⌜ UnitRoom count (now class) (now mark) (now n0) (now «step_down») (now «step_up») ⌝ }
+    ensures { λ r. ⌜ UnitsRead (now (s .entry)) count run limit r (now (class .exit)) (now (mark .exit)) (now (n0 .exit)) (now («step_down» .exit)) (now («step_up» .exit)) ⌝ }
 {
     let mut floor: u32 = 0;
     let mut here = GroupRecord::LEN;
+    let mut p: i32 = 0;
     let mut i = 0;
     while i < count {
         let r = unit_at(s, here, floor, run, limit);
         let UnitAnswer::Is(u) = r else {
-            return Answer::Refused(r.refusal());
+            return UnitsAnswer::Refused(r.refusal());
         };
-        number[i] = u.number;
         class[i] = u.class;
-        implicit[i] = is_implicit(u.nominated, u.coincide);
+        mark[i] = is_implicit(u.nominated, u.coincide) as u8;
         let n = considered(u.nominated, u.coincide, u.n, u.pc);
         let considered = n.0;
         n0[i] = considered;
-        let position = u.pc.0;
-        pc[i] = position;
         let down = u.step_down;
         step_down[i] = down;
         let up = u.step_up;
         step_up[i] = up;
+        p += u.pc.0;
         floor = (u.number as u32) + 1;
         here += UnitRecord::LEN;
         i += 1;
     }
-    Answer::Is(here)
+    UnitsAnswer::Is(Units {
+        end: here,
+        p: Position(p),
+    })
 }
 
-// The result of a group at the front of a room, by way of lent columns.
+// The result of a block whose units passed, at the front of a room, by way of lent columns.
 fn write_through(
+    s: &[u8],
     key: Key,
     count: u8,
+    p: Position,
     room: &mut [u8],
-    number: &[u16],
     class: &[u8],
-    implicit: &[bool],
     n0: &[i32],
-    pc: &[i32],
     step_down: &[i32],
     step_up: &[i32],
     n1: &mut [i32],
@@ -131,13 +153,13 @@ fn write_through(
     n3: &mut [i32],
     reason: &mut [u8],
 )
-    requires { ⌜ Writable count (now number) (now implicit) (columns (now n0) (now pc) (now «step_down») (now «step_up») (now class)) (now n1) (now n2) (now n3) (now reason) (now room) ⌝ }
-    ensures { λ _. ⌜ now (room .exit) ≡ laidAt (now (room .entry)) 0 (resultBy key count (now (number .entry)) (now (implicit .entry)) (columns (now (n0 .entry)) (now (pc .entry)) (now («step_down» .entry)) (now («step_up» .entry)) (now (class .entry)))) ⌝ }
+    requires { ⌜ Writable (now s) count (p .0) (now class) (now n0) (now «step_down») (now «step_up») (now n1) (now n2) (now n3) (now reason) (now room) ⌝ }
+    ensures { λ _. ⌜ now (room .exit) ≡ laidAt (now (room .entry)) 0 (resultIn (now (s .entry)) key count) ⌝ }
 {
-    let sums = judged(n0, pc, step_down, step_up, class, n1, n2, n3);
-    reasons(implicit, n0, n1, n2, n3, step_down, step_up, reason);
+    let sums = judged(p, n0, step_down, step_up, class, n1, n2, n3);
+    reasons(n0, n1, n2, n3, step_down, step_up, reason);
     let g = group_result(key, count, sums);
-    lay_results(room, g, number, reason, n0, n1, n2, n3);
+    lay_results(room, g, s, reason, n0, n1, n2, n3);
 }
 
 // The units of a block, then the room, and then the block's result, by way of lent columns.
@@ -147,11 +169,8 @@ fn take_through(
     run: u32,
     limit: u16,
     room: &mut [u8],
-    number: &mut [u16],
     class: &mut [u8],
-    implicit: &mut [bool],
     n0: &mut [i32],
-    pc: &mut [i32],
     step_down: &mut [i32],
     step_up: &mut [i32],
     n1: &mut [i32],
@@ -159,7 +178,7 @@ fn take_through(
     n3: &mut [i32],
     reason: &mut [u8],
 ) -> BlockAnswer
-    requires { ⌜ Working (group .count) (now number) (now class) (now implicit) (now n0) (now pc) (now «step_down») (now «step_up») (now n1) (now n2) (now n3) (now reason) ⌝ }
+    requires { ⌜ (groupLength ≤ length (now s)) × Working (group .count) (now class) (now n0) (now «step_down») (now «step_up») (now n1) (now n2) (now n3) (now reason) ⌝ }
     ensures { λ r. ⌜ Taking (unitsTaken (now (s .entry)) group run limit (length (now (room .entry)))) (resultIn (now (s .entry)) (keyOf group) (group .count)) (now (room .entry)) r (now (room .exit)) ⌝ }
 {
     let u = units_into(
@@ -167,18 +186,16 @@ fn take_through(
         group.count as usize,
         run,
         limit,
-        number,
         class,
-        implicit,
+        reason,
         n0,
-        pc,
         step_down,
         step_up,
     );
-    let Answer::Is(end) = u else {
+    let UnitsAnswer::Is(units) = u else {
         return BlockAnswer::Refused(u.refusal());
     };
-    let block = Block::of(group, end);
+    let block = Block::of(group, units.end);
     if room.len() < block.written {
         return BlockAnswer::Refused(Refusal {
             why: Why::Room,
@@ -187,14 +204,13 @@ fn take_through(
     }
     let key = block.key;
     write_through(
+        s,
         key,
         block.count,
+        units.p,
         room,
-        number,
         class,
-        implicit,
         n0,
-        pc,
         step_down,
         step_up,
         n1,
@@ -205,7 +221,7 @@ fn take_through(
     BlockAnswer::Is(block)
 }
 
-// The units of a block, and its result at the front of a room; its columns take 2,112 bytes of stack.
+// The units of a block, and its result at the front of a room; its columns take 1,664 bytes of stack.
 pub fn take_units(
     s: &[u8],
     group: GroupRecord,
@@ -213,15 +229,12 @@ pub fn take_units(
     limit: u16,
     room: &mut [u8],
 ) -> BlockAnswer
-    requires { ⌜ group .count ≤ 64 ⌝ }
+    requires { ⌜ (groupLength ≤ length (now s)) × (group .count ≤ 64) ⌝ }
     ensures { λ r. ⌜ Taking (unitsTaken (now (s .entry)) group run limit (length (now (room .entry)))) (resultIn (now (s .entry)) (keyOf group) (group .count)) (now (room .entry)) r (now (room .exit)) ⌝ }
 {
     let n = group.count as usize;
-    let mut number = [0u16; 64];
     let mut class = [0u8; 64];
-    let mut implicit = [false; 64];
     let mut n0 = [0i32; 64];
-    let mut pc = [0i32; 64];
     let mut step_down = [0i32; 64];
     let mut step_up = [0i32; 64];
     let mut n1 = [0i32; 64];
@@ -234,11 +247,8 @@ pub fn take_units(
         run,
         limit,
         room,
-        &mut number[..n],
         &mut class[..n],
-        &mut implicit[..n],
         &mut n0[..n],
-        &mut pc[..n],
         &mut step_down[..n],
         &mut step_up[..n],
         &mut n1[..n],

@@ -1,23 +1,26 @@
 -- A block that opens with 02h, offered as the first of its day: what it writes is its result, which is short.
-use Prim.Native.Nat.{ℕ}
-use mathlib.Core.Path.{_≡_, ap, _∙_}
+use Prim.Native.Nat.{ℕ, _≤_}
+use mathlib.Core.Path.{_≡_, refl, ap, _∙_}
+use mathlib.Core.Bool.{true}
 use mathlib.Core.List.{List}
 use native.Mathlib.Omega.{arith}
-use borrow.Author.Tests.{eqb-true}
 use lib.IntN.{ℤ, pos, negℤ}
 use lib.ListN.{length}
-use Rattle.numbers.specs.Bytes.{byteAt}
 use Rattle.terms.specs.Reply.{Reply, is, refused, next}
-use Rattle.terms.proofs.Replies.{need-is}
+use Rattle.terms.proofs.Replies.{need-is, next-is}
 use Rattle.records.specs.declared.day.DayRecord.{DayRecord}
-use Rattle.records.specs.Reading.{headOf, dayOf}
+use Rattle.records.specs.Layouts.{dayAt}
+use Rattle.records.specs.Reading.{headOf, permitted, dayFieldsOf, dayOf}
+use Rattle.records.proofs.Heads.{headed}
 use Rattle.day.specs.declared.offer.Step.{Step}
 use Rattle.day.specs.declared.offer.Offered.{Offered}
 use Rattle.day.specs.Days.{opened}
 use Rattle.day.specs.Blocks.{blockResult}
-use Rattle.day.specs.Offers.{offerOf, writtenOf, offerReply, roomAfter, Offers}
+use Rattle.day.specs.Offers.{blockTaken, offerOf, offerReply, roomAfter, Offering}
+use Rattle.day.proofs.ByKind.{offer-block}
 use Rattle.day.proofs.Read.{read}
 use Rattle.day.proofs.Outcomes.{taken-block}
+use Rattle.day.proofs.Written.{block-comes}
 use Rattle.desk.specs.Desk.{firstOf, callOf, given, Gives, Short}
 
 -- a refusal writes nothing, and its number is turned
@@ -38,26 +41,37 @@ pub head-out : (d : DayRecord) (s : List ℕ) (room : ℕ) {n p : ℕ} → headO
 unfolding firstOf next
 head-out d s room e = rw e
 
+-- a day record that was read has quarters that a day can have
+pub day-permitted : (s : List ℕ) {d : DayRecord} → dayOf s ≡ is d → permitted (d .quarters) ≡ true
+unfolding dayOf dayFieldsOf
+day-permitted s {d} e =
+    let a = next-is (headOf s 0 1 12) _ e in
+    let b = need-is _ _ _ _ (a .1 .1) in
+    let v : d ≡ dayAt s 0 = cc (b .1) in
+    rw v (b .0)
+
 module _ (s : List ℕ) {end : ℕ} (h : headOf s 0 2 10 ≡ is end) where
-  kind : byteAt s 0 ≡ 2
-  unfolding headOf
-  kind = eqb-true _ _ (need-is _ _ _ _ (need-is _ _ _ _ h .1) .0)
+  pub long : 10 ≤ length s
+  long = headed s 0 2 10 h .long
 
-  writes : writtenOf s ≡ blockResult s
-  writes = rw kind
+  module _ (d : DayRecord) (p : permitted (d .quarters) ≡ true) (room : ℕ) where
+    -- to the day just opened it comes next, and is a block
+    offers-block : offerOf (opened d) s room ≡ blockTaken (opened d) s room
+    offers-block = offer-block (opened d) s (record { kind = 2; end = end }) (block-comes (opened d) s (rw p) refl h) refl room
 
-  pub short : (d : DayRecord) (room : ℕ) → Short (offerOf (opened d) s room)
-  short d room step e =
-      let t = taken-block (opened d) s room e kind in
-      let few = read (opened d) s (t .fields) .few in
-      rw (t .value) (omega arith)
+    pub short : Short (blockTaken (opened d) s room)
+    short step e =
+        let t = taken-block (opened d) s room (offers-block ∙ e) (headed s 0 2 10 h .first) in
+        let few = read (opened d) s (t .fields) .few in
+        rw (t .value) (omega arith)
 
-  head-in : (d : DayRecord) (room : ℕ) → firstOf d s room ≡ offerOf (opened d) s room
-  unfolding firstOf next
-  head-in d room = rw h
+    head-in : firstOf d s room ≡ blockTaken (opened d) s room
+    unfolding firstOf next
+    head-in = rw h offers-block
 
-  pub gives : (d : DayRecord) {entry exit : List ℕ} {o : Offered} {z : ℤ} → Offers (opened d) s entry o exit → z ≡ given (offerReply o)
+  pub gives : (d : DayRecord) → permitted (d .quarters) ≡ true → {entry exit : List ℕ} {o : Offered} {z : ℤ}
+      → Offering (blockTaken (opened d) s (length entry)) (blockResult s) (opened d) entry o exit → z ≡ given (offerReply o)
       → Gives (firstOf d s (length entry)) s entry z exit
-  gives d {entry} a e =
-      let f = head-in d (length entry) in
-      record { replied = rw f (e ∙ ap given (a .gave .replied)); room = rw f (rw writes at (a .room)) }
+  gives d p {entry} a e =
+      let f = head-in d p (length entry) in
+      record { replied = rw f (e ∙ ap given (a .gave .replied)); room = rw f (a .room) }

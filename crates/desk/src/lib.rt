@@ -1,12 +1,14 @@
 // The C call: a block is checked as the first of its day.
 ghost use mathlib.Core.Path.{_≡_};
+ghost use mathlib.Core.Bool.{true};
 ghost use lib.IntN.{pos, negℤ};
 ghost use lib.ListN.{length};
 ghost use Rattle.terms.specs.Refusals.{numberOf};
+ghost use Rattle.records.specs.Reading.{permitted};
 ghost use Rattle.day.specs.Offers.{offerReply};
 ghost use Rattle.desk.specs.Desk.{firstOf, given, Gives, Checks, Short};
 use day::offer::Offered;
-use day::offer::offer;
+use day::offer::take_block;
 use day::value::Day;
 use records::day::DayAnswer;
 use records::day::DayRecord;
@@ -37,13 +39,14 @@ fn reply(o: Offered) -> i32
 
 // A block that opens with its kind, as the first of the day that a record opens.
 fn check_first(record: DayRecord, block: &[u8], room: &mut [u8]) -> i32
+    requires { ⌜ permitted («record» .quarters) ≡ true ⌝ }
     ensures { λ n. ⌜ Gives (firstOf «record» (now (block .entry)) (length (now (room .entry)))) (now (block .entry)) (now (room .entry)) n (now (room .exit)) ⌝ }
 {
     let h = head(block, 0, GroupRecord::KIND, GroupRecord::LEN);
     let Answer::Is(_) = h else {
         return minus(h.refusal());
     };
-    let o = offer(Day::opened(record), block, room);
+    let o = take_block(Day::opened(record), block, room);
     reply(o)
 }
 

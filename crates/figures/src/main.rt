@@ -1,4 +1,5 @@
 // Runs the figures of document 01 and writes what comes out; `tests/figures.py` works out what is expected.
+mod ages;
 mod print;
 mod readings;
 mod show;
@@ -12,10 +13,12 @@ fn main() {
     small::full_group();
     small::ranges();
     small::ranges_left();
+    ages::limits();
     readings::shares_of_all_units();
     readings::sizes_before_step_1();
     readings::shares_rounded_alone();
     readings::zero_clamped();
     readings::both_sides_clamped();
     readings::balance_of_absolute_values();
+    ages::date_for_age();
 }

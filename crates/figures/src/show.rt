@@ -31,7 +31,7 @@ fn sums(s: Sums) {
     named(b" balance ", balance.0);
 }
 
-fn refused(r: Refusal) {
+pub fn refused(r: Refusal) {
     let why = r.why;
     named(b" refused ", why.number() as i32);
     place(b" at ", r.place);

@@ -1,6 +1,6 @@
 -- What an accepted group has passed, read back from the reply test by test.
 use Prim.Native.Nat.{ℕ, _≤_, _<_}
-use mathlib.Core.Path.{_≡_}
+use mathlib.Core.Path.{_≡_, refl}
 use mathlib.Core.Bool.{true}
 use mathlib.Core.List.{List}
 use native.Mathlib.Omega.{arith}
@@ -11,9 +11,10 @@ use lib.IntN.{ℤ, pos, negℤ}
 use lib.ListN.{length, getD, List·getD-eq-default}
 use lib.Signed.{leZ}
 use Rattle.numbers.specs.Range.{Within}
-use Rattle.numbers.specs.Column.{at, AllWithin}
+use Rattle.numbers.specs.Column.{at}
 use Rattle.numbers.proofs.Integers.{zarith, one-side}
 use Rattle.numbers.proofs.Choices.{and-both}
+use Rattle.numbers.proofs.Sums.{sum64-within}
 use Rattle.terms.specs.Reply.{is}
 use Rattle.terms.specs.Refusals.{unitsFrom}
 use Rattle.terms.specs.Checks.{isFlag, inRange, amountChecks}
@@ -22,11 +23,11 @@ use Rattle.terms.specs.declared.refusal.Fault.the-variants as F
 use Rattle.terms.proofs.Replies.{need-is, next-is}
 use Rattle.terms.proofs.Passing.{passes}
 use Rattle.terms.proofs.Scan.{all-fine}
-use Rattle.group.specs.Group.{Group, units, n1}
+use Rattle.group.specs.Group.{Group, units, position, n1}
 use Rattle.group.specs.Columns.{unitCheck, unitChecks, lengths, oneLength, countPermitted, sumsOf, judgeOf}
 use Rattle.group.specs.Asked.{Level, Judged, Classed}
 use Rattle.group.specs.declared.judge.Sums.{Sums}
-use Rattle.group.proofs.Ranges.{step1-length, step1-small}
+use Rattle.group.proofs.Judging.{n1-classed}
 
 -- the fields of a unit that passes its checks
 pub record Sound (class : ℕ) (n0 pc stepDown stepUp : ℤ) : Type 0 where
@@ -64,6 +65,28 @@ pub record Accepted (g : Group) : Type 0 where
   pub few : units g ≤ 64
   pub level : Level g
   pub sound : (i : ℕ) → Sound (getD (g .class) i 0) (at (g .n0) i) (at (g .pc) i) (at (g .stepDown) i) (at (g .stepUp) i)
+
+pub position-within : (g : Group) → Accepted g → Within 64000000 (position g)
+position-within g a = sum64-within (g .pc) (omega (arith, a .level .positions, a .few)) (λ i. a .sound i .pc-small)
+
+-- such a group, with three columns as long as it
+pub judged-by : (g : Group) {first second third : List ℤ} → Accepted g → length first ≡ units g → length second ≡ units g → length third ≡ units g
+    → Judged (position g) (g .n0) (g .stepDown) (g .stepUp) (g .class) first second third
+judged-by g a firsts seconds thirds =
+    record {
+      few = a .few;
+      downs = a .level .downs;
+      ups = a .level .ups;
+      classes = a .level .classes;
+      known = λ i. a .sound i .known;
+      firsts = firsts;
+      seconds = seconds;
+      thirds = thirds;
+      position-small = position-within g a;
+      n0-small = λ i. a .sound i .n0-small;
+      down-small = λ i. a .sound i .down-small;
+      up-small = λ i. a .sound i .up-small;
+    }
 
 -- the eight lengths
 record Even (g : Group) (first second third : List ℤ) : Type 0 where
@@ -103,7 +126,7 @@ nothing-sound = omega zarith
 
 module _ (g : Group) (first second third : List ℤ) {n : ℕ} (lengths-one : oneLength g first second third ≡ true)
     (permitted : countPermitted (units g) ≡ true) (fine : unitsFrom (unitChecks g) 0 (units g) ≡ is n) where
-  accepted-by : Accepted g
+  pub accepted-by : Accepted g
   unfolding unitChecks
   accepted-by = record { few = leb-true (units g) 64 (and-both (leb 1 (units g)) (leb (units g) 64) permitted .1); level = v; sound = λ i. go i (decLt i (units g)) }
     where
@@ -124,22 +147,10 @@ module _ (g : Group) (first second third : List ℤ) {n : ℕ} (lengths-one : on
           )
           nothing-sound
 
-  pub judged-of : Judged g first second third
+  pub judged-of : Judged (position g) (g .n0) (g .stepDown) (g .stepUp) (g .class) first second third
   judged-of =
-      let a = accepted-by in
       let v = even g first second third lengths-one in
-      record {
-        few = a .few;
-        level = a .level;
-        known = λ i. a .sound i .known;
-        firsts = v .firsts;
-        seconds = v .seconds;
-        thirds = v .thirds;
-        n0-small = λ i. a .sound i .n0-small;
-        pc-small = λ i. a .sound i .pc-small;
-        down-small = λ i. a .sound i .down-small;
-        up-small = λ i. a .sound i .up-small;
-      }
+      judged-by g accepted-by (v .firsts) (v .seconds) (v .thirds)
 
 pub accepted : (g : Group) (first second third : List ℤ) {sums : Sums} → judgeOf g first second third ≡ is sums → Accepted g
 unfolding judgeOf
@@ -150,18 +161,5 @@ accepted g first second third e =
     accepted-by g first second third (a .0) (b .0) (c .1 .0)
 
 -- n1 of such a group is a column that can be cut
-pub classed-by : (g : Group) → units g ≤ 64 → length (g .class) ≡ units g → ((i : ℕ) → getD (g .class) i 0 ≤ 1)
-    → AllWithin 1000000 (g .n0) → AllWithin 1000000 (g .stepDown) → AllWithin 1000000 (g .stepUp) → Classed (n1 g) (g .class)
-classed-by g few classes known n0-small down-small up-small =
-    let m = step1-length (g .n0) (g .stepDown) (g .stepUp) in
-    record {
-      few = omega arith;
-      small = step1-small (g .n0) (g .stepDown) (g .stepUp) n0-small down-small up-small;
-      classes = omega arith;
-      known = known;
-    }
-
 pub classed : (g : Group) → Accepted g → Classed (n1 g) (g .class)
-classed g a =
-    classed-by g (a .few) (a .level .classes) (λ i. a .sound i .known)
-    (λ i. a .sound i .n0-small) (λ i. a .sound i .down-small) (λ i. a .sound i .up-small)
+classed g a = n1-classed (judged-by g {first = g .n0} {second = g .n0} {third = g .n0} a refl refl refl)

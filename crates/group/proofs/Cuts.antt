@@ -1,5 +1,5 @@
 -- What step 2 takes of each unit: no more than its size in the direction cut, by the laws of `quota` for each standing, and so much nearer to zero it comes.
-use Prim.Native.Nat.{ℕ, _+_, _-_, _*_, _≤_, _<_, min}
+use Prim.Native.Nat.{ℕ, _+_, _*_, _≤_, _<_}
 use mathlib.Core.Path.{_≡_, refl, sym, _∙_, ap, ap₂}
 use mathlib.Core.Bool.{true, false}
 use mathlib.Core.List.{List}
@@ -56,11 +56,6 @@ module _ (e : ℤ) (n1 : List ℤ) (class : List ℕ) (bears : Bears e n1 class)
   share-bearable NotEnabled = omega arith
   share-bearable Enabled = omega arith
 
-  -- so those enabled bear all that is left of the excess
-  pub rest-bearable : let rest = natAbs e - min (natAbs e) (sum (sizesOf (directionOf e) NotEnabled n1 class)) in
-      min rest (sum (sizesOf (directionOf e) Enabled n1 class)) ≡ rest
-  rest-bearable = omega arith
-
   shares-add : shareOf e NotEnabled n1 class + shareOf e Enabled n1 class ≡ natAbs e
   unfolding shareOf
   shares-add = omega arith
@@ -89,14 +84,14 @@ module _ (e : ℤ) (n1 : List ℤ) (class : List ℕ) (bears : Bears e n1 class)
         shares-add,
       )
 
-  all-cut : (k : Standing) (j : ℕ) → shareOf e k n1 class ≡ sum (sizesOf (directionOf e) k n1 class)
+  pub all-cut : (k : Standing) (j : ℕ) → shareOf e k n1 class ≡ sum (sizesOf (directionOf e) k n1 class)
       → getD (cutsFor e k n1 class) j 0 ≡ sizeOf (directionOf e) k (getD class j 0) (at n1 j)
   unfolding cutsFor
   all-cut k j h =
       let s : List ℕ = sizesOf (directionOf e) k n1 class in
       ap (λ (c : ℕ). getD (cutsOf s c) j 0) h ∙ cuts-all s j ∙ size-at (directionOf e) k n1 class j
 
-  cut-within : (k : Standing) (i : ℕ) → getD (cutsFor e k n1 class) i 0 ≤ sizeOf (directionOf e) k (getD class i 0) (at n1 i)
+  pub cut-within : (k : Standing) (i : ℕ) → getD (cutsFor e k n1 class) i 0 ≤ sizeOf (directionOf e) k (getD class i 0) (at n1 i)
   unfolding cutsFor
   cut-within k i =
       omega (
@@ -129,7 +124,7 @@ module _ (e : ℤ) (n1 : List ℤ) (class : List ℕ) (bears : Bears e n1 class)
     step2-nearer i = rw (step2-at i) (nearer (directionOf e) (at n1 i) (lossAt e n1 class i) (loss-within classed i))
 
     -- a unit that stands so is cut with those that stand so alone
-    loss-of : (k : Standing) (i : ℕ) → standing k (getD class i 0) ≡ true → lossAt e n1 class i ≡ getD (cutsFor e k n1 class) i 0
+    pub loss-of : (k : Standing) (i : ℕ) → standing k (getD class i 0) ≡ true → lossAt e n1 class i ≡ getD (cutsFor e k n1 class) i 0
     loss-of k i h = go k (size-of (directionOf e) k (getD class i 0) (at n1 i) h)
       where
         go : (k : Standing) → sizeOf (directionOf e) k (getD class i 0) (at n1 i) ≡ sizeIn (directionOf e) (at n1 i) → lossAt e n1 class i ≡ getD (cutsFor e k n1 class) i 0

@@ -1,5 +1,5 @@
--- A group that is not refused stays within its ranges through all three steps.
-use Prim.Native.Nat.{_≤_}
+-- A group that is not refused stays within its ranges through all three steps, and what it leaves is the definition's.
+use Prim.Native.Nat.{ℕ, _≤_}
 use mathlib.Core.Path.{_≡_, _∙_}
 use mathlib.Core.List.{List}
 use native.Mathlib.Omega.{arith}
@@ -13,51 +13,85 @@ use Rattle.numbers.specs.Column.{AllWithin}
 use Rattle.numbers.specs.Sum.{sumZ}
 use Rattle.numbers.proofs.Integers.{zarith}
 use Rattle.numbers.proofs.Sums.{sum64-within}
-use Rattle.group.specs.Columns.{sumsBy}
+use Rattle.group.specs.Steps.{bandOf, excessOf}
+use Rattle.group.specs.Group.{Group, position, step1All, step2All, step3All, n1, n2, n3}
+use Rattle.group.specs.Columns.{sumsOf, sumsBy}
+use Rattle.group.specs.Asked.{Classed, Judged, Written}
 use Rattle.group.specs.declared.band.Band.{Band}
-use Rattle.group.specs.Group.{Group, units, position, excess, n1, n2, n3}
-use Rattle.group.specs.Asked.{Classed, Judged}
+use Rattle.group.specs.declared.judge.Sums.{Sums}
 use Rattle.group.proofs.Bearing.{bearable}
-use Rattle.group.proofs.Accepting.{classed-by}
-use Rattle.group.proofs.Ranges.{step1-length, step2-length, step3-length, step2-small, step3-small, excess-within}
+use Rattle.group.proofs.Ranges.{step1-length, step2-length, step3-length, step1-small, step2-small, step3-small}
 
-module _ (g : Group) {first second third : List ℤ} (h : Judged g first second third) where
-  pub position-within : Within 64000000 (position g)
-  position-within = sum64-within (g .pc) (omega (arith, h .level .positions, h .few)) (h .pc-small)
+module _ {p : ℤ} {n0 stepDown stepUp : List ℤ} {class : List ℕ} {first second third : List ℤ} (h : Judged p n0 stepDown stepUp class first second third) where
+  abbrev x1 : List ℤ
+  x1 = step1All n0 stepDown stepUp
 
-  pub n1-length : length (n1 g) ≡ units g
-  n1-length = step1-length (g .n0) (g .stepDown) (g .stepUp)
+  abbrev e : ℤ
+  e = excessOf (bandOf p) (sumZ x1)
 
-  pub n1-classed : Classed (n1 g) (g .class)
-  n1-classed = classed-by g (h .few) (h .level .classes) (h .known) (h .n0-small) (h .down-small) (h .up-small)
+  abbrev x2 : List ℤ
+  x2 = step2All e x1 class
 
-  pub n2-small : AllWithin 1000000 (n2 g)
-  n2-small = step2-small (excess g) (n1 g) (g .class) n1-classed (bearable (position g) (n1 g) (g .class) n1-classed)
+  abbrev x3 : List ℤ
+  x3 = step3All x2 stepDown stepUp
 
-  pub n2-few : length (n2 g) ≤ 64
-  n2-few = omega (arith, step2-length (excess g) (n1 g) (g .class), n1-length, h .few)
+  pub n1-length : length x1 ≡ length n0
+  n1-length = step1-length n0 stepDown stepUp
 
-  pub n3-few : length (n3 g) ≤ 64
-  n3-few =
-      omega (arith, step3-length (n2 g) (g .stepDown) (g .stepUp), n2-few)
+  pub n1-classed : Classed x1 class
+  n1-classed =
+      record {
+        few = omega (arith, n1-length, h .few);
+        small = step1-small n0 stepDown stepUp (h .n0-small) (h .down-small) (h .up-small);
+        classes = omega (arith, n1-length, h .classes);
+        known = h .known;
+      }
 
-  pub n3-small : AllWithin 1000000 (n3 g)
-  n3-small = step3-small (n2 g) (g .stepDown) (g .stepUp) n2-small (h .down-small) (h .up-small)
+  pub n2-length : length x2 ≡ length n0
+  n2-length = step2-length e x1 class ∙ n1-length
 
-  -- the sums fit 32 bits, so the machine reads them back as they are
-  fits : {z : ℤ} {y : ℤ} → y ≡ z → Within 128000000 z → toZ w32 (ofZ w32 y) ≡ z
-  fits {z} {y} e w =
-      let f : SFits w32 y = rw e (omega zarith) in
-      toZ-ofZ f ∙ e
+  pub n2-few : length x2 ≤ 64
+  n2-few = omega (arith, n2-length, h .few)
 
-  pub s1-read : {s : ℤ} → s ≡ sumZ (n1 g) → toZ w32 (ofZ w32 s) ≡ sumZ (n1 g)
-  s1-read e = fits e (omega (zarith, sum64-within (n1 g) (n1-classed .few) (n1-classed .small)))
+  pub n2-small : AllWithin 1000000 x2
+  n2-small = step2-small e x1 class n1-classed (bearable p x1 class n1-classed)
 
-  pub excess-read : {s : ℤ} → s ≡ excess g → toZ w32 (ofZ w32 s) ≡ excess g
-  excess-read e = fits e (excess-within (position g) (sumZ (n1 g)) position-within (sum64-within (n1 g) (n1-classed .few) (n1-classed .small)))
+  pub n3-few : length x3 ≤ 64
+  n3-few = omega (arith, step3-length x2 stepDown stepUp, n2-few)
 
-  pub s2-read : {s : ℤ} → s ≡ sumZ (n2 g) → toZ w32 (ofZ w32 s) ≡ sumZ (n2 g)
-  s2-read e = fits e (omega (zarith, sum64-within (n2 g) n2-few n2-small))
+  pub n3-small : AllWithin 1000000 x3
+  n3-small = step3-small x2 stepDown stepUp n2-small (h .down-small) (h .up-small)
+
+  pub s1-within : Within 64000000 (sumZ x1)
+  s1-within = sum64-within x1 (n1-classed .few) (n1-classed .small)
+
+  pub s2-within : Within 64000000 (sumZ x2)
+  s2-within = sum64-within x2 n2-few n2-small
+
+  pub s3-within : Within 64000000 (sumZ x3)
+  s3-within = sum64-within x3 n3-few n3-small
+
+-- what an accepted group leaves, as the definition of a group has it
+pub record Told (g : Group) (sums : Sums) (x1 x2 x3 : List ℤ) : Type 0 where
+  pub replied : sums ≡ sumsOf g
+  pub clamped : x1 ≡ n1 g
+  pub cut : x2 ≡ n2 g
+  pub stretched : x3 ≡ n3 g
+
+pub told : (g : Group) {sums : Sums} {x1 x2 x3 : List ℤ} → Written (position g) (g .n0) (g .stepDown) (g .stepUp) (g .class) sums x1 x2 x3 → Told g sums x1 x2 x3
+told g w =
+    record {
+      replied = rw (w .replied, w .stretched, w .cut, w .clamped);
+      clamped = w .clamped;
+      cut = rw (w .cut, w .clamped);
+      stretched = rw (w .stretched, w .cut, w .clamped);
+    }
+
+-- a sum of a group fits 32 bits, so the machine reads it back as it is
+pub read : {y z : ℤ} → y ≡ z → Within 64000000 z → toZ w32 (ofZ w32 y) ≡ y
+read {y} e w =
+    let f : SFits w32 y = rw e (omega zarith) in
+    toZ-ofZ f
 
 pub sums-same : {p q : ℤ} {b d : Band} {s1 t1 e f s2 t2 s3 t3 : ℤ}
     → p ≡ q → b ≡ d → s1 ≡ t1 → e ≡ f → s2 ≡ t2 → s3 ≡ t3 → sumsBy p b s1 e s2 s3 ≡ sumsBy q d t1 f t2 t3

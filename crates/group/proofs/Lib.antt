@@ -3,11 +3,12 @@ pub mod Bands
 pub mod Sides
 pub mod Bearing
 pub mod Cuts
+pub mod Running
 pub mod Ranges
-pub mod Wholly
+pub mod Uncut
 pub mod Through
-pub mod Accepting
 pub mod Judging
+pub mod Accepting
 pub mod Replying
 pub mod Landing
 pub mod Margins

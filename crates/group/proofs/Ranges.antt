@@ -12,18 +12,20 @@ use Rattle.numbers.specs.Range.{Within}
 use Rattle.numbers.specs.Choice.{pick}
 use Rattle.numbers.specs.Column.{at, AllWithin}
 use Rattle.numbers.specs.Sum.{sum}
-use Rattle.numbers.proofs.Integers.{zarith, minus}
+use Rattle.numbers.proofs.Integers.{zarith}
+use Rattle.numbers.proofs.Choices.{pick-ind}
 use Rattle.numbers.proofs.Columns.{column-length, column-within}
+use Rattle.terms.specs.Quantities.{standing, sizeIn}
 use Rattle.terms.specs.declared.quantity.Standing.{Standing}
+use Rattle.terms.specs.declared.quantity.Standing.the-variants.{NotEnabled}
 use Rattle.terms.specs.declared.quantity.Direction.{Direction}
 use Rattle.quota.specs.Quota.{cutsOf, Sized}
 use Rattle.quota.proofs.Fairness.{cuts-within}
-use Rattle.group.specs.Steps.{bandOf, excessOf, directionOf, nearerBy, step1Of, step3Of}
-use Rattle.group.specs.Group.{sizesOf, taken, step1All, step2All, step3All}
-use Rattle.group.specs.Asked.{Classed}
-use Rattle.group.proofs.Bands.{low-within, high-within}
+use Rattle.group.specs.Steps.{directionOf, nearerBy, step1Of, step3Of}
+use Rattle.group.specs.Group.{sizeOf, sizesOf, taken, step1All, step2All, step3All}
+use Rattle.group.specs.Asked.{Classed, lossOf}
 use Rattle.group.proofs.Sides.{sizes-length, size-le, size-at, size-abs}
-use Rattle.group.proofs.Bearing.{Bears, excess-ind}
+use Rattle.group.proofs.Bearing.{Bears}
 use Rattle.group.proofs.Cuts.{nearer, lossAt, loss-within}
 
 -- one of three, by two tests
@@ -31,6 +33,12 @@ one-of : {b : ℕ} (s t : Bool) {x y z : ℤ} → Within b x → Within b y → 
 one-of true t p q r = p
 one-of false true p q r = q
 one-of false false p q r = r
+
+pub step1-within : (b : ℕ) (n stepDown stepUp : ℤ) → Within b n → Within b stepDown → Within b stepUp → Within b (step1Of n stepDown stepUp)
+step1-within b n stepDown stepUp p q r = one-of (ltZ (pos 0) n && ltZ stepUp n) (ltZ n (pos 0) && ltZ n stepDown) r q p
+
+pub step3-within : (b : ℕ) (n stepDown stepUp : ℤ) → Within b n → Within b stepDown → Within b stepUp → Within b (step3Of n stepDown stepUp)
+step3-within b n stepDown stepUp p q r = one-of (ltZ (pos 0) n && ltZ n stepDown) (ltZ n (pos 0) && ltZ stepUp n) q r p
 
 module _ (n stepDown stepUp : List ℤ) where
   pub step1-length : length (step1All n stepDown stepUp) ≡ length n
@@ -46,29 +54,27 @@ module _ (n stepDown stepUp : List ℤ) where
     unfolding step1All
     step1-small =
         column-within 1000000 (λ i. step1Of (at n i) (at stepDown i) (at stepUp i)) (length n)
-        (λ i. one-of (ltZ (pos 0) (at n i) && ltZ (at stepUp i) (at n i)) (ltZ (at n i) (pos 0) && ltZ (at n i) (at stepDown i)) (up-small i) (down-small i) (small i))
+        (λ i. step1-within 1000000 (at n i) (at stepDown i) (at stepUp i) (small i) (down-small i) (up-small i))
 
     pub step3-small : AllWithin 1000000 (step3All n stepDown stepUp)
     unfolding step3All
     step3-small =
         column-within 1000000 (λ i. step3Of (at n i) (at stepDown i) (at stepUp i)) (length n)
-        (λ i. one-of (ltZ (pos 0) (at n i) && ltZ (at n i) (at stepDown i)) (ltZ (at n i) (pos 0) && ltZ (at stepUp i) (at n i)) (down-small i) (up-small i) (small i))
+        (λ i. step3-within 1000000 (at n i) (at stepDown i) (at stepUp i) (small i) (down-small i) (up-small i))
 
-pub excess-within : (p s : ℤ) → Within 64000000 p → Within 64000000 s → Within 128000000 (excessOf (bandOf p) s)
-excess-within p s hp hs =
-    let low : Within 64000000 (bandOf p .low) = low-within p 64000000 hp in
-    let high : Within 64000000 (bandOf p .high) = high-within p 64000000 hp in
-    excess-ind (bandOf p) s (Within 128000000)
-    (λ a. omega (zarith, minus s (bandOf p .high)))
-    (λ a b. omega (zarith, minus s (bandOf p .low)))
-    (λ a b. omega zarith)
+pub loss-small : (d : Direction) (all : Bool) (class : ℕ) (n1 : ℤ) (cut : ℕ) → Within 1000000 n1 → cut ≤ 1000000 → lossOf d all class n1 cut ≤ 1000000
+unfolding lossOf
+loss-small d all class n1 cut w l = pick-ind (all && standing NotEnabled class) (sizeIn d n1) cut (λ x. x ≤ 1000000) (λ _. omega (zarith, size-abs d n1)) (λ _. l)
 
 module _ {n1 : List ℤ} {class : List ℕ} (h : Classed n1 class) where
+  pub size-small : (d : Direction) (k : Standing) (i : ℕ) → sizeOf d k (getD class i 0) (at n1 i) ≤ 1000000
+  size-small d k i = omega (zarith, size-le d k (getD class i 0) (at n1 i), size-abs d (at n1 i), h .small i)
+
   pub sizes-sized : (d : Direction) (k : Standing) → Sized (sizesOf d k n1 class)
   sizes-sized d k =
       record {
         few = omega (arith, sizes-length d k n1 class, h .few);
-        small = λ i. omega (zarith, size-at d k n1 class i, size-le d k (getD class i 0) (at n1 i), size-abs d (at n1 i), h .small i);
+        small = λ i. omega (arith, size-at d k n1 class i, size-small d k i);
       }
 
   pub cuts-small : (d : Direction) (k : Standing) (c : ℕ) → c ≤ sum (sizesOf d k n1 class) → (i : ℕ) → getD (cutsOf (sizesOf d k n1 class) c) i 0 ≤ 1000000

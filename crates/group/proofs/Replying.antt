@@ -6,10 +6,11 @@ use mathlib.Core.List.{List}
 use lib.IntN.{ℤ}
 use Rattle.terms.specs.Reply.{Reply, is, refused, need, next}
 use Rattle.terms.specs.Refusals.{unitsFrom}
-use Rattle.group.specs.Group.{Group, units}
+use Rattle.group.specs.Group.{Group, units, position}
 use Rattle.group.specs.Columns.{unitChecks, oneLength, countPermitted, sumsOf, judgeOf, after, Columns}
 use Rattle.group.specs.Asked.{Written}
 use Rattle.group.specs.declared.judge.Sums.{Sums}
+use Rattle.group.proofs.Judging.{told}
 
 module _ (g : Group) (first second third : List ℤ) where
   kept : {r : Reply Sums} {number place : ℕ} → judgeOf g first second third ≡ refused number place → r ≡ refused number place → Columns g first second third r first second third
@@ -35,9 +36,11 @@ module _ (g : Group) (first second third : List ℤ) where
       unfolding judgeOf need next
       judged e = rw (one, permitted, e)
 
-      pub written : {n : ℕ} {sums : Sums} {x1 x2 x3 : List ℤ} → unitsFrom (unitChecks g) 0 (units g) ≡ is n → Written g sums x1 x2 x3
+      pub written : {n : ℕ} {sums : Sums} {x1 x2 x3 : List ℤ} → unitsFrom (unitChecks g) 0 (units g) ≡ is n
+          → Written (position g) (g .n0) (g .stepDown) (g .stepUp) (g .class) sums x1 x2 x3
           → Columns g first second third (is sums) x1 x2 x3
       unfolding after
       written {n} {sums} e w =
           let j : judgeOf g first second third ≡ is (sumsOf g) = judged e in
-          record { replied = ap is (w .replied) ∙ sym j; clamped = rw j (w .clamped); cut = rw j (w .cut); stretched = rw j (w .stretched) }
+          let t = told g w in
+          record { replied = ap is (t .replied) ∙ sym j; clamped = rw j (t .clamped); cut = rw j (t .cut); stretched = rw j (t .stretched) }

@@ -1,53 +1,102 @@
--- Step 2 as the code takes it: the excess passes first those not enabled and what is left of it those enabled, and that is the rule.
+-- Step 2 as the code takes it: those not enabled share out the excess or, where they lose all, those enabled share out the rest of it, and that is the rule.
 use Prim.Native.Nat.{ℕ, _-_, _≤_, min}
-use mathlib.Core.Path.{_≡_, ap, _∙_}
+use mathlib.Core.Path.{_≡_, refl, sym, ap, _∙_}
+use mathlib.Core.Bool.{Bool, true, false}
 use mathlib.Core.List.{List}
 use native.Mathlib.Omega.{arith}
+use borrow.Author.Tests.{leb-true, leb-false}
+use lib.Dec.{leb}
 use lib.IntN.{ℤ, natAbs}
 use lib.ListN.{length, getD}
+use Rattle.numbers.specs.Choice.{pick}
+use Rattle.numbers.specs.Column.{at}
 use Rattle.numbers.specs.Sum.{sum}
+use Rattle.numbers.proofs.Choices.{pick-ind}
+use Rattle.numbers.proofs.Columns.{column-ext}
+use Rattle.terms.specs.Quantities.{standing, sizeIn}
 use Rattle.terms.specs.declared.quantity.Standing.{Standing}
 use Rattle.terms.specs.declared.quantity.Standing.the-variants.{NotEnabled, Enabled}
 use Rattle.terms.specs.declared.quantity.Direction.{Direction}
-use Rattle.quota.specs.Quota.{cutsOf}
+use Rattle.quota.specs.Quota.{cutsOf, Asked}
 use Rattle.quota.proofs.Fairness.{length-cuts}
-use Rattle.group.specs.Steps.{directionOf}
+use Rattle.group.specs.Steps.{directionOf, nearerBy}
 use Rattle.group.specs.Group.{sizesOf, shareOf, cutsFor, taken, step2All}
-use Rattle.group.specs.Asked.{Classed, Borne, Lost}
-use Rattle.group.proofs.Sides.{sizes-length}
+use Rattle.group.specs.Asked.{Classed, SharedOut, lossOf, left, Lost}
+use Rattle.group.proofs.Sides.{sizes-length, size-of, size-not}
 use Rattle.group.proofs.Bearing.{Bears}
-use Rattle.group.proofs.Cuts.{rest-bearable}
-use Rattle.group.proofs.Ranges.{cuts-small}
+use Rattle.group.proofs.Cuts.{lossAt, all-cut, cut-within, loss-of}
+use Rattle.group.proofs.Ranges.{sizes-sized, cuts-small}
+use Rattle.group.proofs.Uncut.{none-at}
 
-module _ (n1 : List ℤ) (class : List ℕ) (d : Direction) (k : Standing) (c r : ℕ) (cuts : List ℕ) (b : Borne (sizesOf d k n1 class) c r cuts) where
-  borne-length : length cuts ≡ length n1
-  borne-length = ap length (b .cut) ∙ length-cuts (sizesOf d k n1 class) (min c (sum (sizesOf d k n1 class))) ∙ sizes-length d k n1 class
+module _ (e : ℤ) (n1 : List ℤ) (class : List ℕ) (bears : Bears e n1 class) (classed : Classed n1 class) where
+  -- the sizes of those that bear a part, and the total of those not enabled
+  abbrev bearers : Bool → List ℕ
+  bearers all = sizesOf (directionOf e) (pick all Enabled NotEnabled) n1 class
 
-  borne-small : Classed n1 class → (i : ℕ) → getD cuts i 0 ≤ 1000000
-  borne-small h i =
-      let s = sum (sizesOf d k n1 class) in
-      rw (b .cut) (cuts-small h d k (min c s) (omega arith) i)
+  abbrev first : ℕ
+  first = sum (sizesOf (directionOf e) NotEnabled n1 class)
 
-module _ (e : ℤ) (n1 : List ℤ) (class : List ℕ) (d : Direction) (c rest r : ℕ) (first second : List ℕ) (de : d ≡ directionOf e) (ce : c ≡ natAbs e)
-    (b : Borne (sizesOf d NotEnabled n1 class) c rest first) (f : Borne (sizesOf d Enabled n1 class) rest r second) where
-  pub through-lost : Classed n1 class → (n2 : List ℤ) → length n2 ≡ length n1 → Lost n1 first second n2
-  through-lost h n2 l =
-      record {
-        small = h .small;
-        first-places = borne-length n1 class d NotEnabled c rest first b;
-        second-places = borne-length n1 class d Enabled rest r second f;
-        first-small = borne-small n1 class d NotEnabled c rest first b h;
-        second-small = borne-small n1 class d Enabled rest r second f h;
-        places = l;
-      }
+  part-borne : (all : Bool) → all ≡ leb first (natAbs e) → natAbs e - pick all first 0 ≤ sum (bearers all)
+  part-borne true w = omega arith
+  part-borne false w = omega (arith, leb-false first (natAbs e) (sym w))
 
-  pub through-step2 : Bears e n1 class → taken d n1 first second ≡ step2All e n1 class
-  unfolding step2All cutsFor shareOf
-  through-step2 bears =
-      let sizes : Standing → List ℕ = λ (k : Standing). sizesOf (directionOf e) k n1 class in
-      let p : first ≡ cutsOf (sizes NotEnabled) (min (natAbs e) (sum (sizes NotEnabled))) = rw (← de, ← ce) (b .cut) in
-      let q : rest ≡ natAbs e - min (natAbs e) (sum (sizes NotEnabled)) = rw (← de, ← ce) (b .rest) in
-      let t : second ≡ cutsOf (sizes Enabled) (min rest (sum (sizes Enabled))) = rw (← de) (f .cut) in
-      let u : min rest (sum (sizes Enabled)) ≡ natAbs e - min (natAbs e) (sum (sizes NotEnabled)) = rw q (rest-bearable e n1 class bears) in
-      let v : second ≡ cutsOf (sizes Enabled) (natAbs e - min (natAbs e) (sum (sizes NotEnabled))) = t ∙ ap (cutsOf (sizes Enabled)) u in
-      rw (p, v, de)
+  loss-is : (all : Bool) → all ≡ leb first (natAbs e) → (i : ℕ)
+      → lossOf (directionOf e) all (getD class i 0) (at n1 i) (getD (cutsOf (bearers all) (natAbs e - pick all first 0)) i 0) ≡ lossAt e n1 class i
+  unfolding lossOf cutsFor shareOf
+  loss-is true w i =
+      let m : min (natAbs e) first ≡ first = omega (arith, leb-true first (natAbs e) (sym w)) in
+      let d : Direction = directionOf e in
+      let cut : ℕ = getD (cutsOf (bearers true) (natAbs e - first)) i 0 in
+      pick-ind (standing NotEnabled (getD class i 0)) (sizeIn d (at n1 i)) cut (λ c. c ≡ lossAt e n1 class i)
+      (λ h. sym (loss-of e n1 class bears classed NotEnabled i h ∙ all-cut e n1 class bears NotEnabled i m ∙ size-of d NotEnabled (getD class i 0) (at n1 i) h))
+      (λ h.
+      let q : cut ≡ getD (cutsFor e Enabled n1 class) i 0 = ap (λ (c : ℕ). getD (cutsOf (bearers true) (natAbs e - c)) i 0) (sym m) in
+      omega (arith, q, cut-within e n1 class bears NotEnabled i, size-not d NotEnabled (getD class i 0) (at n1 i) h))
+  loss-is false w i =
+      let l = leb-false first (natAbs e) (sym w) in
+      let m : natAbs e - 0 ≡ min (natAbs e) first = omega arith in
+      let k : natAbs e - min (natAbs e) first ≡ 0 = omega arith in
+      let p : getD (cutsOf (bearers false) (natAbs e - 0)) i 0 ≡ getD (cutsFor e NotEnabled n1 class) i 0 = ap (λ (c : ℕ). getD (cutsOf (bearers false) c) i 0) m in
+      let q : getD (cutsFor e Enabled n1 class) i 0 ≡ 0 = ap (λ (c : ℕ). getD (cutsOf (bearers true) c) i 0) k ∙ none-at (bearers true) i in
+      omega (arith, p, q)
+
+  module _ {d : Direction} {c t part : ℕ} {all : Bool} {sizes : List ℕ} (de : d ≡ directionOf e) (ce : c ≡ natAbs e) (s : SharedOut d c n1 class all t part sizes) where
+    whole-is : all ≡ leb first (natAbs e)
+    whole-is = rw (← de, ← ce) (s .whole)
+
+    sizes-are : sizes ≡ bearers all
+    sizes-are = rw (← de) (s .borne)
+
+    part-is : part ≡ natAbs e - pick all first 0
+    part-is = rw (← de, ← ce) (s .rest)
+
+    pub through-asked : {cuts : List ℕ} → length cuts ≡ length n1 → Asked sizes t part cuts
+    through-asked l =
+        rw (s .total, sizes-are, part-is)
+        (record {
+          sized = sizes-sized classed (directionOf e) (pick all Enabled NotEnabled);
+          total = refl;
+          within = part-borne all whole-is;
+          places = l ∙ sym (sizes-length (directionOf e) (pick all Enabled NotEnabled) n1 class);
+        })
+
+    module _ {cuts : List ℕ} (cut : cuts ≡ cutsOf sizes part) where
+      cuts-are : cuts ≡ cutsOf (bearers all) (natAbs e - pick all first 0)
+      cuts-are = cut ∙ rw (sizes-are, part-is)
+
+      pub through-lost : {n2 : List ℤ} → length n2 ≡ length n1 → Lost n1 class cuts n2
+      through-lost l =
+          let k : Standing = pick all Enabled NotEnabled in
+          let p : ℕ = natAbs e - pick all first 0 in
+          record {
+            classed = classed;
+            cuts-places = ap length cuts-are ∙ length-cuts (bearers all) p ∙ sizes-length (directionOf e) k n1 class;
+            cuts-small = λ i. rw cuts-are (cuts-small classed (directionOf e) k p (part-borne all whole-is) i);
+            places = l;
+          }
+
+      pub through-step2 : left d all n1 class cuts ≡ step2All e n1 class
+      unfolding left step2All taken
+      through-step2 =
+          rw (de, cuts-are)
+          (column-ext _ _ (length n1) (λ i _. ap (nearerBy (directionOf e) (at n1 i)) (loss-is all whole-is i)))

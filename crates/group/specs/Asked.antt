@@ -1,25 +1,32 @@
 -- What the inner functions ask of their callers, and what they leave.
-use Prim.Native.Nat.{ℕ, _+_, _-_, _≤_, min}
+use Prim.Native.Nat.{ℕ, _+_, _-_, _≤_}
 use mathlib.Core.Path.{_≡_}
+use mathlib.Core.Bool.{Bool, _&&_}
 use mathlib.Core.List.{List}
+use lib.Dec.{leb}
 use lib.IntN.{ℤ, natAbs}
 use lib.ListN.{length, getD}
+use Rattle.numbers.specs.Choice.{pick}
 use Rattle.numbers.specs.Range.{Within}
-use Rattle.numbers.specs.Column.{AllWithin}
+use Rattle.numbers.specs.Column.{column, at, AllWithin}
 use Rattle.numbers.specs.Sum.{sum, sumZ}
+use Rattle.terms.specs.Quantities.{standing, sizeIn}
+use Rattle.terms.specs.declared.quantity.Direction.{Direction}
 use Rattle.terms.specs.declared.quantity.Standing.the-variants.{NotEnabled, Enabled}
-use Rattle.quota.specs.Quota.{cutsOf}
-use Rattle.group.specs.Steps.{directionOf, excessOf, bandOf}
-use Rattle.group.specs.Group.{Group, units, sizesOf, step2All, n1, n2, n3}
-use Rattle.group.specs.Columns.{sumsOf}
+use Rattle.group.specs.Steps.{nearerBy, directionOf, excessOf, bandOf}
+use Rattle.group.specs.Group.{Group, units, sizesOf, step1All, step2All, step3All}
+use Rattle.group.specs.Columns.{sumsBy}
 use Rattle.group.specs.declared.judge.Sums.{Sums}
-use Rattle.group.specs.declared.band.Band.{Band}
 
--- a step over columns of one length
+-- a step over columns of one length, of at most 64 quantities
 pub record Aligned (n stepDown stepUp out : List ℤ) : Type 0 where
+  pub few : length n ≤ 64
   pub down : length stepDown ≡ length n
   pub up : length stepUp ≡ length n
   pub places : length out ≡ length n
+  pub small : AllWithin 1000000 n
+  pub down-small : AllWithin 1000000 stepDown
+  pub up-small : AllWithin 1000000 stepUp
 
 -- the five columns of a group are of one length
 pub record Level (g : Group) : Type 0 where
@@ -35,10 +42,20 @@ pub record Classed (n1 : List ℤ) (class : List ℕ) : Type 0 where
   pub classes : length class ≡ length n1
   pub known : (i : ℕ) → getD class i 0 ≤ 1
 
--- what a cut over the units of one standing leaves: as much of c as they can bear is cut, and r is the rest
-pub record Borne (sizes : List ℕ) (c r : ℕ) (cuts : List ℕ) : Type 0 where
-  pub cut : cuts ≡ cutsOf sizes (min c (sum sizes))
-  pub rest : r ≡ c - min c (sum sizes)
+-- of c kWh over a direction: whether the units not enabled lose all; the sizes of those that bear a part, their total, and what they bear
+pub record SharedOut (d : Direction) (c : ℕ) (n1 : List ℤ) (class : List ℕ) (all : Bool) (t part : ℕ) (sizes : List ℕ) : Type 0 where
+  pub whole : all ≡ leb (sum (sizesOf d NotEnabled n1 class)) c
+  pub borne : sizes ≡ sizesOf d (pick all Enabled NotEnabled) n1 class
+  pub total : t ≡ sum sizes
+  pub rest : part ≡ c - pick all (sum (sizesOf d NotEnabled n1 class)) 0
+
+-- what a unit loses: its cut, or all of it where the units not enabled lose all and it is one of them
+unfoldable pub lossOf : Direction → Bool → ℕ → ℤ → ℕ → ℕ
+lossOf d all class n1 cut = pick (all && standing NotEnabled class) (sizeIn d n1) cut
+
+-- what is left of every unit
+unfoldable pub left : Direction → Bool → List ℤ → List ℕ → List ℕ → List ℤ
+left d all n1 class cuts = column (length n1) λ i. nearerBy d (at n1 i) (lossOf d all (getD class i 0) (at n1 i) (getD cuts i 0))
 
 -- an excess that the units of its direction can bear, with a place for each unit
 pub record Bearable (e : ℤ) (n1 : List ℤ) (class : List ℕ) (n2 : List ℤ) : Type 0 where
@@ -46,45 +63,31 @@ pub record Bearable (e : ℤ) (n1 : List ℤ) (class : List ℕ) (n2 : List ℤ)
   pub borne : natAbs e ≤ sum (sizesOf (directionOf e) NotEnabled n1 class) + sum (sizesOf (directionOf e) Enabled n1 class)
   pub places : length n2 ≡ length n1
 
--- n1 of a group with the band of its P, and a place for each unit
-pub record Banded (p : ℤ) (b : Band) (n1 : List ℤ) (class : List ℕ) (n2 : List ℤ) : Type 0 where
-  pub position : Within 64000000 p
-  pub band : b ≡ bandOf p
+-- a class and a cut for each quantity
+pub record Lost (n1 : List ℤ) (class cuts : List ℕ) (n2 : List ℤ) : Type 0 where
   pub classed : Classed n1 class
+  pub cuts-places : length cuts ≡ length n1
+  pub cuts-small : (i : ℕ) → getD cuts i 0 ≤ 1000000
   pub places : length n2 ≡ length n1
 
--- two cuts for each quantity
-pub record Lost (n1 : List ℤ) (first second : List ℕ) (n2 : List ℤ) : Type 0 where
-  pub small : AllWithin 1000000 n1
-  pub first-places : length first ≡ length n1
-  pub second-places : length second ≡ length n1
-  pub first-small : (i : ℕ) → getD first i 0 ≤ 1000000
-  pub second-small : (i : ℕ) → getD second i 0 ≤ 1000000
-  pub places : length n2 ≡ length n1
+-- a group of position p that was not refused, with three columns to write
+pub record Judged (p : ℤ) (n0 stepDown stepUp : List ℤ) (class : List ℕ) (first second third : List ℤ) : Type 0 where
+  pub few : length n0 ≤ 64
+  pub downs : length stepDown ≡ length n0
+  pub ups : length stepUp ≡ length n0
+  pub classes : length class ≡ length n0
+  pub known : (i : ℕ) → getD class i 0 ≤ 1
+  pub firsts : length first ≡ length n0
+  pub seconds : length second ≡ length n0
+  pub thirds : length third ≡ length n0
+  pub position-small : Within 64000000 p
+  pub n0-small : AllWithin 1000000 n0
+  pub down-small : AllWithin 1000000 stepDown
+  pub up-small : AllWithin 1000000 stepUp
 
--- S1, its excess over the band, and S2 with n2, from n1
-pub record Cut (n1 : List ℤ) (class : List ℕ) (b : Band) (s1 e s2 : ℤ) (n2 : List ℤ) : Type 0 where
-  pub s1-is : s1 ≡ sumZ n1
-  pub e-is : e ≡ excessOf b (sumZ n1)
-  pub n2-is : n2 ≡ step2All (excessOf b (sumZ n1)) n1 class
-  pub s2-is : s2 ≡ sumZ (step2All (excessOf b (sumZ n1)) n1 class)
-
--- a group that was not refused, with three columns to write
-pub record Judged (g : Group) (first second third : List ℤ) : Type 0 where
-  pub few : units g ≤ 64
-  pub level : Level g
-  pub known : (i : ℕ) → getD (g .class) i 0 ≤ 1
-  pub firsts : length first ≡ units g
-  pub seconds : length second ≡ units g
-  pub thirds : length third ≡ units g
-  pub n0-small : AllWithin 1000000 (g .n0)
-  pub pc-small : AllWithin 1000000 (g .pc)
-  pub down-small : AllWithin 1000000 (g .stepDown)
-  pub up-small : AllWithin 1000000 (g .stepUp)
-
--- what an accepted group leaves
-pub record Written (g : Group) (sums : Sums) (x1 x2 x3 : List ℤ) : Type 0 where
-  pub replied : sums ≡ sumsOf g
-  pub clamped : x1 ≡ n1 g
-  pub cut : x2 ≡ n2 g
-  pub stretched : x3 ≡ n3 g
+-- what an accepted group leaves, by "The steps" one after another
+pub record Written (p : ℤ) (n0 stepDown stepUp : List ℤ) (class : List ℕ) (sums : Sums) (x1 x2 x3 : List ℤ) : Type 0 where
+  pub clamped : x1 ≡ step1All n0 stepDown stepUp
+  pub cut : x2 ≡ step2All (excessOf (bandOf p) (sumZ x1)) x1 class
+  pub stretched : x3 ≡ step3All x2 stepDown stepUp
+  pub replied : sums ≡ sumsBy p (bandOf p) (sumZ x1) (excessOf (bandOf p) (sumZ x1)) (sumZ x2) (sumZ x3)

@@ -2,8 +2,9 @@
 ghost use mathlib.Core.Path.{_≡_};
 ghost use Rattle.group.specs.Group.{step1All, step3All};
 ghost use Rattle.numbers.specs.Range.{Within};
+ghost use Rattle.numbers.specs.Sum.{sumZ};
 ghost use Rattle.group.specs.Columns.{columns, judgement, sumsBy, lengths, Columns};
-ghost use Rattle.group.specs.Asked.{Aligned, Banded, Cut, Judged, Written};
+ghost use Rattle.group.specs.Asked.{Aligned, Judged, Written};
 use crate::band::Band;
 use crate::band::balance;
 use crate::band::verdict;
@@ -34,47 +35,45 @@ pub enum Judgement {
     Refused(Refusal),
 }
 
-// Step 1 of every unit.
-fn step1_all(n0: &[i32], step_down: &[i32], step_up: &[i32], n1: &mut [i32])
+// Step 1 of every unit, and S1.
+fn step1_all(n0: &[i32], step_down: &[i32], step_up: &[i32], n1: &mut [i32]) -> i32
     requires { ⌜ Aligned (now n0) (now «step_down») (now «step_up») (now n1) ⌝ }
-    ensures { λ _. ⌜ now (n1 .exit) ≡ step1All (now (n0 .entry)) (now («step_down» .entry)) (now («step_up» .entry)) ⌝ }
+    ensures { λ r. ⌜ (r ≡ sumZ (step1All (now (n0 .entry)) (now («step_down» .entry)) (now («step_up» .entry)))) × (now (n1 .exit) ≡ step1All (now (n0 .entry)) (now («step_down» .entry)) (now («step_up» .entry))) ⌝ }
 {
+    let mut s1 = 0;
     let mut i = 0;
     while i < n0.len() {
-        n1[i] = step1(n0[i], step_down[i], step_up[i]);
+        let first = step1(n0[i], step_down[i], step_up[i]);
+        n1[i] = first;
+        s1 += first;
         i += 1;
     }
+    s1
 }
 
-// Step 3 of every unit.
-fn step3_all(n2: &[i32], step_down: &[i32], step_up: &[i32], n3: &mut [i32])
+// The sums on both sides of step 3.
+struct Stretched {
+    s2: i32,
+    s3: i32,
+}
+
+// Step 3 of every unit, with S2 and S3.
+fn step3_all(n2: &[i32], step_down: &[i32], step_up: &[i32], n3: &mut [i32]) -> Stretched
     requires { ⌜ Aligned (now n2) (now «step_down») (now «step_up») (now n3) ⌝ }
-    ensures { λ _. ⌜ now (n3 .exit) ≡ step3All (now (n2 .entry)) (now («step_down» .entry)) (now («step_up» .entry)) ⌝ }
+    ensures { λ r. ⌜ (r .s2 ≡ sumZ (now (n2 .entry))) × ((r .s3 ≡ sumZ (step3All (now (n2 .entry)) (now («step_down» .entry)) (now («step_up» .entry)))) × (now (n3 .exit) ≡ step3All (now (n2 .entry)) (now («step_down» .entry)) (now («step_up» .entry)))) ⌝ }
 {
+    let mut s2 = 0;
+    let mut s3 = 0;
     let mut i = 0;
     while i < n2.len() {
-        n3[i] = step3(n2[i], step_down[i], step_up[i]);
+        let second = n2[i];
+        let third = step3(second, step_down[i], step_up[i]);
+        n3[i] = third;
+        s2 += second;
+        s3 += third;
         i += 1;
     }
-}
-
-// The sums on both sides of step 2, and the excess that it cuts.
-struct Balanced {
-    s1: i32,
-    e: i32,
-    s2: i32,
-}
-
-// Step 2 of a group with position p and its band.
-fn step2_sums(p: Position, b: Band, n1: &[i32], class: &[u8], n2: &mut [i32]) -> Balanced
-    requires { ⌜ Banded (p .0) b (now n1) (now class) (now n2) ⌝ }
-    ensures { λ r. ⌜ Cut (now (n1 .entry)) (now (class .entry)) b (r .s1) (r .e) (r .s2) (now (n2 .exit)) ⌝ }
-{
-    let s1 = sum(n1);
-    let e = b.excess(s1);
-    step2_all(e, n1, class, n2);
-    let s2 = sum(n2);
-    Balanced { s1, e, s2 }
+    Stretched { s2, s3 }
 }
 
 // Verdict and balance, beside the sums.
@@ -92,10 +91,10 @@ fn summed(p: Position, b: Band, s1: i32, e: i32, s2: i32, s3: i32) -> Sums
     }
 }
 
-// The three steps of a group that is not refused.
+// The three steps of a group of position p that is not refused.
 pub fn judged(
+    p: Position,
     n0: &[i32],
-    pc: &[i32],
     step_down: &[i32],
     step_up: &[i32],
     class: &[u8],
@@ -103,16 +102,15 @@ pub fn judged(
     n2: &mut [i32],
     n3: &mut [i32],
 ) -> Sums
-    requires { ⌜ Judged (columns (now n0) (now pc) (now «step_down») (now «step_up») (now class)) (now n1) (now n2) (now n3) ⌝ }
-    ensures { λ r. ⌜ Written (columns (now (n0 .entry)) (now (pc .entry)) (now («step_down» .entry)) (now («step_up» .entry)) (now (class .entry))) r (now (n1 .exit)) (now (n2 .exit)) (now (n3 .exit)) ⌝ }
+    requires { ⌜ Judged (p .0) (now n0) (now «step_down») (now «step_up») (now class) (now n1) (now n2) (now n3) ⌝ }
+    ensures { λ r. ⌜ Written (p .0) (now (n0 .entry)) (now («step_down» .entry)) (now («step_up» .entry)) (now (class .entry)) r (now (n1 .exit)) (now (n2 .exit)) (now (n3 .exit)) ⌝ }
 {
-    let p = Position(sum(pc));
     let b = Band::of(p);
-    step1_all(n0, step_down, step_up, n1);
-    let cut = step2_sums(p, b, n1, class, n2);
-    step3_all(n2, step_down, step_up, n3);
-    let s3 = sum(n3);
-    summed(p, b, cut.s1, cut.e, cut.s2, s3)
+    let s1 = step1_all(n0, step_down, step_up, n1);
+    let e = b.excess(s1);
+    step2_all(e, n1, class, n2);
+    let sums = step3_all(n2, step_down, step_up, n3);
+    summed(p, b, s1, e, sums.s2, sums.s3)
 }
 
 // Whether eight lengths are one.
@@ -188,5 +186,6 @@ pub fn judge(
     let Answer::Is(_) = checked else {
         return Judgement::Refused(checked.refusal());
     };
-    Judgement::Accepted(judged(n0, pc, step_down, step_up, class, n1, n2, n3))
+    let p = Position(sum(pc));
+    Judgement::Accepted(judged(p, n0, step_down, step_up, class, n1, n2, n3))
 }

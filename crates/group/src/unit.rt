@@ -29,7 +29,7 @@ pub fn step1(n0: i32, step_down: i32, step_up: i32) -> i32
 
 // Step 2, once the unit's cut is known.
 pub fn nearer(d: Direction, n1: i32, cut: u32) -> i32
-    requires { ⌜ Within 1000000 n1 × (cut ≤ 2000000) ⌝ }
+    requires { ⌜ Within 1000000 n1 × (cut ≤ 1000000) ⌝ }
     ensures { λ r. ⌜ r ≡ nearerBy d n1 cut ⌝ }
 {
     let kwh = cut as i32;

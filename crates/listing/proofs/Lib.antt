@@ -6,3 +6,4 @@ pub mod Parts
 pub mod Replies
 pub mod Inside
 pub mod Unique
+pub mod Whole

@@ -2,3 +2,4 @@
 pub mod Lines
 pub mod Laying
 pub mod Listing
+pub mod Whole

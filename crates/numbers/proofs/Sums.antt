@@ -4,7 +4,7 @@ use mathlib.Core.Path.{_≡_, refl, sym, _∙_, ap, subst}
 use mathlib.Core.Bool.{Bool, true, false}
 use mathlib.Core.List.{List, [], _∷_, _++_}
 use native.Mathlib.Omega.{arith}
-use native.Mathlib.Nat.{add-zero, add-suc, le-refl, le-of-eq, le-of-suc-le-suc, not-suc-le-zero}
+use native.Mathlib.Nat.{le-refl, le-of-eq, le-of-suc-le-suc, not-suc-le-zero}
 use native.Mathlib.Numerals.{add-one}
 use native.Mathlib.Decide.{decLt}
 use borrow.Author.Tests.{lt-ltb, le-ltb}
@@ -115,12 +115,6 @@ sumTo-one n f = ap (λ (m : ℕ). sumTo m f) (add-one n)
 pub count-one : (n : ℕ) (p : ℕ → Bool) → count (n + 1) p ≡ count n p + bit (p n)
 unfolding count
 count-one n p = sumTo-one n (λ (i : ℕ). bit (p i))
-
--- the first i indices, and the m after them
-pub count-split : (i m : ℕ) (p : ℕ → Bool) → count (i + m) p ≡ count i p + count m (λ (j : ℕ). p (i + j))
-unfolding count sumTo
-count-split i zero p = rw add-zero (sym (add-zero (count i p)))
-count-split i (suc m) p = rw add-suc (omega (arith, count-split i m p))
 
 -- the sum up to the end is the list's
 pub sumTo-end : (s : List ℕ) (i : ℕ) → i ≡ length s → sumTo i (λ (k : ℕ). getD s k 0) ≡ sum s

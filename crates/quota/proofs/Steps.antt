@@ -15,7 +15,7 @@ use Rattle.numbers.specs.Sum.{sum, sumTo, bit}
 use Rattle.numbers.proofs.Columns.{column-length, column-at, column-past, is-column, column-ext, set-more}
 use Rattle.numbers.proofs.Sums.{sumTo-one, sumTo-mono, sumTo-none, sum-bound}
 use Rattle.quota.specs.Quota.{whole, rest, before, rank, still, cutAt, cutsOf, Asked}
-use Rattle.quota.specs.Keys.{keyOf, key, rankedOf, above, dealt}
+use Rattle.quota.specs.Keys.{keyOf, key, keysOf, rankedOf, above, dealt}
 use Rattle.quota.proofs.Ranks.{ranked-same, ranked-more, ranked-fits, dealt-is}
 use Rattle.quota.proofs.Shares.{share, wholes-le}
 
@@ -52,7 +52,7 @@ rest-small c n t r l m e = go (decLt 0 t)
         let z : c ≡ 0 = omega arith in
         omega (arith, e ∙ ap (λ (x : ℕ). x * n % t) z ∙ ap (λ (x : ℕ). x % t) (zero-mul n) ∙ zero-mod t)
 
--- after i turns of the first loop: the whole parts and the keys of i units, those with a remainder again, and what is left of C
+-- after i turns of the first loop: the whole parts of i units, their keys before the sizes of the others, those with a remainder again, and what is left of C
 pub record Wholes (s : List ℕ) (c : ℕ) (ranked₀ cuts keys ranked : List ℕ) (left units i : ℕ) : Type 0 where
   pub upto : i ≤ length s
   pub places : length cuts ≡ length s
@@ -60,7 +60,8 @@ pub record Wholes (s : List ℕ) (c : ℕ) (ranked₀ cuts keys ranked : List �
   pub again : length ranked ≡ length s
   pub fewer : units ≤ i
   pub wholes : (j : ℕ) → j < i → getD cuts j 0 ≡ whole s c j
-  pub others : (j : ℕ) → j < i → getD keys j 0 ≡ key s c j
+  pub done : (j : ℕ) → j < i → getD keys j 0 ≡ key s c j
+  pub todo : (j : ℕ) → i ≤ j → getD keys j 0 ≡ getD s j 0
   pub units-are : units ≡ length (rankedOf (key s c) i)
   pub ranked-are : ranked ≡ rankedOf (key s c) i ++ drop units ranked₀
   pub still-left : left + sumTo i (whole s c) ≡ c
@@ -71,18 +72,18 @@ WholesDone s c ranked₀ cuts keys ranked left units =
     (left ≡ still s c)
     × (units ≡ length (rankedOf (key s c) (length s)))
     × (cuts ≡ column (length s) (whole s c))
-    × (keys ≡ column (length s) (key s c))
+    × (keys ≡ keysOf s c)
     × (ranked ≡ rankedOf (key s c) (length s) ++ drop units ranked₀)
 
 module _ {s d ranked₀ cuts keys ranked : List ℕ} {t c left units i : ℕ} (a : Asked s t c d) (h : Wholes s c ranked₀ cuts keys ranked left units i) where
-  module _ (w r : ℕ) (l : i < length s) (w-is : w ≡ c * getD s i 0 / t) (r-is : r ≡ c * getD s i 0 % t) where
+  module _ (w r : ℕ) (l : i < length keys) (w-is : w ≡ c * getD keys i 0 / t) (r-is : r ≡ c * getD keys i 0 % t) where
     w-whole : w ≡ whole s c i
     unfolding whole
-    w-whole = w-is ∙ ap (λ (x : ℕ). c * getD s i 0 / x) (a .total)
+    w-whole = w-is ∙ ap₂ (λ (n x : ℕ). c * n / x) (h .todo i (le-refl i)) (a .total)
 
     r-key : keyOf r i ≡ key s c i
     unfolding key rest
-    r-key = ap (λ (x : ℕ). keyOf x i) (r-is ∙ ap (λ (x : ℕ). c * getD s i 0 % x) (a .total))
+    r-key = ap (λ (x : ℕ). keyOf x i) (r-is ∙ ap₂ (λ (n x : ℕ). c * n % x) (h .todo i (le-refl i)) (a .total))
 
     -- no more is taken off than is left
     pub whole-left : w ≤ left
@@ -103,7 +104,8 @@ module _ {s d ranked₀ cuts keys ranked : List ℕ} {t c left units i : ℕ} (a
           again = again;
           fewer = omega (arith, units-are, ranked-fits (key s c) (i + 1));
           wholes = set-more (whole s c) 0 cuts i w (omega arith) w-whole (h .wholes);
-          others = set-more (key s c) 0 keys i x (omega arith) r-key (h .others);
+          done = set-more (key s c) 0 keys i x (omega arith) r-key (h .done);
+          todo = λ j m. getD-set-other keys i j x 0 (omega arith) ∙ h .todo j (omega arith);
           units-are = units-are;
           ranked-are = ranked-are;
           still-left = omega (arith, whole-left, w-whole, sumTo-one i (whole s c));
@@ -122,14 +124,14 @@ module _ {s d ranked₀ cuts keys ranked : List ℕ} {t c left units i : ℕ} (a
         turn (length-set ranked units (keyOf r i) ∙ h .again) (more .0)
         (ap₂ (λ (k : List ℕ) (y : ℕ). set k units y) (h .ranked-are) r-key ∙ more .1)
 
-  pub wholes-end : length s ≤ i → WholesDone s c ranked₀ cuts keys ranked left units
-  unfolding still
+  pub wholes-end : length keys ≤ i → WholesDone s c ranked₀ cuts keys ranked left units
+  unfolding still keysOf
   wholes-end full =
       let e : i ≡ length s = omega arith in (
         omega (arith, ap (λ (n : ℕ). sumTo n (whole s c)) e),
         h .units-are ∙ ap (λ (n : ℕ). length (rankedOf (key s c) n)) e,
         is-column (whole s c) 0 (length s) cuts (h .places) (λ j m. h .wholes j (omega arith)),
-        is-column (key s c) 0 (length s) keys (h .kept) (λ j m. h .others j (omega arith)),
+        is-column (key s c) 0 (length s) keys (h .kept) (λ j m. h .done j (omega arith)),
         h .ranked-are ∙ ap (λ (n : ℕ). rankedOf (key s c) n ++ drop units ranked₀) e,
       )
 
@@ -185,6 +187,7 @@ module _ {s d cuts keys ranked : List ℕ} {t c left units : ℕ} (a : Asked s t
   ranked-inside = omega (arith, h .1, ap length (h .4) ∙ length-append (rankedOf (key s c) (length s)) (drop units ranked₀))
 
   pub may-deal : (length (take units ranked) ≤ 64) × (length keys ≡ length cuts) × ((k : ℕ) → getD cuts k 0 ≤ 1000000)
+  unfolding keysOf
   may-deal = (
     rw ranked-is (omega (arith, a .sized .few, ranked-fits (key s c) (length s))),
     rw (h .2, h .3) (column-length (key s c) (length s) ∙ sym (column-length (whole s c) (length s))),
@@ -196,7 +199,7 @@ module _ {s d cuts keys ranked : List ℕ} {t c left units : ℕ} (a : Asked s t
       small k (no l) = omega (arith, column-past (whole s c) (length s) k 0 (omega arith))
 
   pub all-dealt : column (length cuts) (λ (k : ℕ). getD cuts k 0 + dealt (take units ranked) left (getD keys k 0)) ≡ cutsOf s c
-  unfolding cutsOf cutAt
+  unfolding cutsOf cutAt keysOf
   all-dealt =
       rw (ranked-is, h .0, h .2, h .3, column-length (whole s c) (length s))
       (column-ext _ (cutAt s c) (length s)

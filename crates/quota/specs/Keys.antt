@@ -5,6 +5,7 @@ use mathlib.Core.List.{List, [], _∷_, _++_}
 use lib.Dec.{ltb}
 use lib.ListN.{length, getD}
 use Rattle.numbers.specs.Choice.{pick}
+use Rattle.numbers.specs.Column.{column}
 use Rattle.numbers.specs.Sum.{bit, count}
 use Rattle.quota.specs.Quota.{rest}
 
@@ -14,6 +15,9 @@ keyOf x i = x * 64 + (63 - i)
 
 unfoldable pub key : List ℕ → ℕ → ℕ → ℕ
 key s c i = keyOf (rest s c i) i
+
+unfoldable pub keysOf : List ℕ → ℕ → List ℕ
+keysOf s c = column (length s) (key s c)
 
 -- of the keys f 0, f 1, .., f (n - 1) those of units with a remainder, in their order
 unfoldable pub rankedOf : (ℕ → ℕ) → ℕ → List ℕ

@@ -4,23 +4,8 @@ ghost use mathlib.Core.Path.{_≡_};
 ghost use Prim.Native.Nat.{ℕ, _+_, _*_, _/_, _%_, _≤_};
 ghost use lib.ListN.{length, getD, drop};
 ghost use Rattle.numbers.specs.Column.{column};
-ghost use Rattle.numbers.specs.Sum.{sum};
-ghost use Rattle.quota.specs.Quota.{whole, still, cutsOf, Sized, Asked};
-ghost use Rattle.quota.specs.Keys.{key, rankedOf, above, dealt};
-
-// The sum of the sizes.
-pub fn total(sizes: &[u32]) -> u32
-    requires { ⌜ Sized (now sizes) ⌝ }
-    ensures { λ r. ⌜ r ≡ sum (now (sizes .entry)) ⌝ }
-{
-    let mut t = 0;
-    let mut i = 0;
-    while i < sizes.len() {
-        t += sizes[i];
-        i += 1;
-    }
-    t
-}
+ghost use Rattle.quota.specs.Quota.{whole, still, cutsOf, Asked};
+ghost use Rattle.quota.specs.Keys.{key, keysOf, rankedOf, above, dealt};
 
 // An exact share C·n / T: its whole part and its remainder.
 struct Share {
@@ -63,20 +48,13 @@ struct Odd {
     units: usize,
 }
 
-// Cuts each unit by the whole part of its share, keeps the keys, and once more, side by side, those of units with a remainder.
-fn cut_wholes(
-    sizes: &[u32],
-    t: u32,
-    c: u32,
-    cuts: &mut [u32],
-    keys: &mut [u32],
-    ranked: &mut [u32],
-) -> Odd
-    requires { ⌜ Asked (now sizes) t c (now cuts) × (length (now keys) ≡ length (now sizes)) × (length (now ranked) ≡ length (now sizes)) ⌝ }
+// Cuts each unit by the whole part of its share; its size gives way to its key, and the keys of units with a remainder come side by side.
+fn cut_wholes(sizes: &mut [u32], t: u32, c: u32, cuts: &mut [u32], ranked: &mut [u32]) -> Odd
+    requires { ⌜ Asked (now sizes) t c (now cuts) × (length (now ranked) ≡ length (now sizes)) ⌝ }
     ensures { λ r. ⌜ (r .left ≡ still (now (sizes .entry)) c)
         × (r .units ≡ length (rankedOf (key (now (sizes .entry)) c) (length (now (sizes .entry)))))
         × (now (cuts .exit) ≡ column (length (now (sizes .entry))) (whole (now (sizes .entry)) c))
-        × (now (keys .exit) ≡ column (length (now (sizes .entry))) (key (now (sizes .entry)) c))
+        × (now (sizes .exit) ≡ keysOf (now (sizes .entry)) c)
         × (now (ranked .exit) ≡ rankedOf (key (now (sizes .entry)) c) (length (now (sizes .entry))) ++ drop (r .units) (now (ranked .entry))) ⌝ }
 {
     let mut left = c;
@@ -87,7 +65,7 @@ fn cut_wholes(
         cuts[k] = share.whole;
         left -= share.whole;
         let key = share.rest * 64 + (63 - k as u32);
-        keys[k] = key;
+        sizes[k] = key;
         if 0 < share.rest {
             ranked[units] = key;
             units += 1;
@@ -113,32 +91,24 @@ fn deal(ranked: &[u32], left: u32, keys: &[u32], cuts: &mut [u32])
     }
 }
 
-// The cut, with two columns for the keys.
-fn cut_over(sizes: &[u32], t: u32, c: u32, cuts: &mut [u32], keys: &mut [u32], ranked: &mut [u32])
-    requires { ⌜ Asked (now sizes) t c (now cuts) × (length (now keys) ≡ length (now sizes)) × (length (now ranked) ≡ length (now sizes)) ⌝ }
-    ensures { λ _. ⌜ now (cuts .exit) ≡ cutsOf (now (sizes .entry)) c ⌝ }
+// The cut, with a column for the keys of units with a remainder.
+fn cut_over(sizes: &mut [u32], t: u32, c: u32, cuts: &mut [u32], ranked: &mut [u32])
+    requires { ⌜ Asked (now sizes) t c (now cuts) × (length (now ranked) ≡ length (now sizes)) ⌝ }
+    ensures { λ _. ⌜ (now (cuts .exit) ≡ cutsOf (now (sizes .entry)) c) × (now (sizes .exit) ≡ keysOf (now (sizes .entry)) c) ⌝ }
 {
-    let odd = cut_wholes(sizes, t, c, cuts, keys, ranked);
+    let odd = cut_wholes(sizes, t, c, cuts, ranked);
     if odd.left == 0 {
         return;
     }
-    deal(&ranked[..odd.units], odd.left, keys, cuts);
+    deal(&ranked[..odd.units], odd.left, sizes, cuts);
 }
 
-// The pro-quota cut of c kWh over the sizes, whose total is t, each unit's into its place of cuts.
-pub fn cut(sizes: &[u32], t: u32, c: u32, cuts: &mut [u32])
+// The pro-quota cut of c kWh over the sizes, whose total is t, each unit's into its place of cuts; the sizes give way to the keys.
+pub fn cut(sizes: &mut [u32], t: u32, c: u32, cuts: &mut [u32])
     requires { ⌜ Asked (now sizes) t c (now cuts) ⌝ }
-    ensures { λ _. ⌜ now (cuts .exit) ≡ cutsOf (now (sizes .entry)) c ⌝ }
+    ensures { λ _. ⌜ (now (cuts .exit) ≡ cutsOf (now (sizes .entry)) c) × (now (sizes .exit) ≡ keysOf (now (sizes .entry)) c) ⌝ }
 {
     let n = sizes.len();
-    // Most groups are small, and columns of 8 are sooner cleared than columns of 64.
-    if n <= 8 {
-        let mut keys = [0u32; 8];
-        let mut ranked = [0u32; 8];
-        cut_over(sizes, t, c, cuts, &mut keys[..n], &mut ranked[..n]);
-        return;
-    }
-    let mut keys = [0u32; 64];
     let mut ranked = [0u32; 64];
-    cut_over(sizes, t, c, cuts, &mut keys[..n], &mut ranked[..n]);
+    cut_over(sizes, t, c, cuts, &mut ranked[..n]);
 }

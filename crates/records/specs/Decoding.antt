@@ -1,6 +1,5 @@
 -- A block that passed, as columns: entry i of each is of the unit of index i.
 use Prim.Native.Nat.{ℕ}
-use mathlib.Core.Path.{_≡_}
 use mathlib.Core.Bool.{Bool}
 use mathlib.Core.List.{List}
 use lib.IntN.{ℤ}
@@ -37,14 +36,3 @@ stepDownIn s count = column count λ i. unitIn s i .«step_down»
 
 abbrev pub stepUpIn : List ℕ → ℕ → List ℤ
 stepUpIn s count = column count λ i. unitIn s i .«step_up»
-
--- the columns are those of the first so many units of a block
-pub record Decoded
-    (s : List ℕ) (count : ℕ) (number class : List ℕ) (implicit : List Bool) (n0 pc stepDown stepUp : List ℤ) : Type 0 where
-  pub numbers : number ≡ numbersIn s count
-  pub classes : class ≡ classesIn s count
-  pub implicits : implicit ≡ implicitsIn s count
-  pub nominations : n0 ≡ n0In s count
-  pub positions : pc ≡ pcIn s count
-  pub downs : stepDown ≡ stepDownIn s count
-  pub ups : stepUp ≡ stepUpIn s count

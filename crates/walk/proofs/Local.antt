@@ -20,11 +20,12 @@ use Rattle.walk.proofs.Extents.{lies}
 use Rattle.walk.proofs.Gives.{Given, aDay, aBlock, anEnd, given, step-of}
 use Rattle.walk.proofs.UnitHeads.{head-end, heads-lie, block-is, block-run}
 
-record Agree (s t : List ℕ) (n : ℕ) : Type 0 where
+-- t has the first n bytes of s
+pub record Agree (s t : List ℕ) (n : ℕ) : Type 0 where
   pub long : n ≤ length t
   pub same : (i : ℕ) → i < n → byteAt t i ≡ byteAt s i
 
-agree : (s t : List ℕ) (n : ℕ) → n ≤ length s → take n s ≡ take n t → Agree s t n
+pub agree : (s t : List ℕ) (n : ℕ) → n ≤ length s → take n s ≡ take n t → Agree s t n
 agree s t n h e =
     record { long = omega (arith, h, length-take n s, length-take n t, ap length e); same = λ i l. sym (getD-take n t i 0 l) ∙ ap (λ (x : List ℕ). byteAt x i) (sym e) ∙ getD-take n s i 0 l }
 

@@ -5,13 +5,17 @@ ghost use lib.IntN.{pos};
 ghost use lib.ListN.{length, getD};
 ghost use Rattle.numbers.specs.Bytes.{bytes32, bits32, laidAt};
 ghost use Rattle.records.specs.Layouts.{unitResultBytes};
+ghost use Rattle.records.specs.Decoding.{numbersIn};
 ghost use Rattle.writers.specs.Runs.{quantities};
-ghost use Rattle.writers.specs.Results.{results, resultOf, unitResultsBytes, resultBytes, LongResults, Laying};
+ghost use Rattle.writers.specs.Results.{results, resultFrom, unitResultsBytes, resultBytes, Entries, LongResults, Laying};
 use crate::lay::lay_group_result;
 use crate::lay::lay_head;
 use numbers::bytes::lay_i32;
 use numbers::bytes::lay_u8;
+use numbers::bytes::u16_at;
+use records::group::GroupRecord;
 use records::group_result::GroupResult;
+use records::unit::UnitRecord;
 use records::unit_result::UnitResult;
 
 // The entry of an index, read right before it is stored, so that its four bytes are one store.
@@ -33,32 +37,31 @@ fn lay_steps(room: &mut [u8], at: usize, n0: &[i32], n1: &[i32], n2: &[i32], n3:
     lay_entry(room, at + 12, n3, i);
 }
 
-// The result of the unit of an index, at a place.
+// The result of the unit of an index and a number, at a place.
 fn lay_result(
     room: &mut [u8],
     at: usize,
-    number: &[u16],
+    number: u16,
     reason: &[u8],
     n0: &[i32],
     n1: &[i32],
     n2: &[i32],
     n3: &[i32],
-    units: usize,
     i: usize,
 )
-    requires { ⌜ LongResults units (results (now number) (now reason) (now n0) (now n1) (now n2) (now n3)) × ((i < units) × (at + 20 ≤ length (now room))) ⌝ }
-    ensures { λ _. ⌜ now (room .exit) ≡ laidAt (now (room .entry)) at (unitResultBytes (resultOf (results (now (number .entry)) (now (reason .entry)) (now (n0 .entry)) (now (n1 .entry)) (now (n2 .entry)) (now (n3 .entry))) i)) ⌝ }
+    requires { ⌜ Entries i (now reason) (now n0) (now n1) (now n2) (now n3) × (at + 20 ≤ length (now room)) ⌝ }
+    ensures { λ _. ⌜ now (room .exit) ≡ laidAt (now (room .entry)) at (unitResultBytes (resultFrom number (now (reason .entry)) (now (n0 .entry)) (now (n1 .entry)) (now (n2 .entry)) (now (n3 .entry)) i)) ⌝ }
 {
-    lay_head(room, at, UnitResult::KIND, number[i]);
+    lay_head(room, at, UnitResult::KIND, number);
     lay_u8(room, at + UnitResult::REASON, reason[i]);
     lay_steps(room, at + UnitResult::N0, n0, n1, n2, n3, i);
 }
 
-// So many units' results, one after another from a place on.
+// The results of a block's units, one after another from a place on; a unit's number is read from the block's bytes.
 fn lay_unit_results(
     room: &mut [u8],
     at: usize,
-    number: &[u16],
+    s: &[u8],
     reason: &[u8],
     n0: &[i32],
     n1: &[i32],
@@ -66,13 +69,17 @@ fn lay_unit_results(
     n3: &[i32],
     units: usize,
 )
-    requires { ⌜ LongResults units (results (now number) (now reason) (now n0) (now n1) (now n2) (now n3)) × (at + 20 * units ≤ length (now room)) ⌝ }
-    ensures { λ _. ⌜ now (room .exit) ≡ laidAt (now (room .entry)) at (unitResultsBytes (results (now (number .entry)) (now (reason .entry)) (now (n0 .entry)) (now (n1 .entry)) (now (n2 .entry)) (now (n3 .entry))) units) ⌝ }
+    requires { ⌜ LongResults units (now s) (now reason) (now n0) (now n1) (now n2) (now n3) × (at + 20 * units ≤ length (now room)) ⌝ }
+    ensures { λ _. ⌜ now (room .exit) ≡ laidAt (now (room .entry)) at (unitResultsBytes (results (numbersIn (now (s .entry)) units) (now (reason .entry)) (now (n0 .entry)) (now (n1 .entry)) (now (n2 .entry)) (now (n3 .entry))) units) ⌝ }
 {
     let mut i = 0;
     while i < units {
+        let number = u16_at(
+            s,
+            GroupRecord::LEN + UnitRecord::LEN * i + UnitRecord::NUMBER,
+        );
         let here = at + UnitResult::LEN * i;
-        lay_result(room, here, number, reason, n0, n1, n2, n3, units, i);
+        lay_result(room, here, number, reason, n0, n1, n2, n3, i);
         i += 1;
     }
 }
@@ -81,27 +88,17 @@ fn lay_unit_results(
 pub fn lay_results(
     room: &mut [u8],
     g: GroupResult,
-    number: &[u16],
+    s: &[u8],
     reason: &[u8],
     n0: &[i32],
     n1: &[i32],
     n2: &[i32],
     n3: &[i32],
 )
-    requires { ⌜ Laying g (results (now number) (now reason) (now n0) (now n1) (now n2) (now n3)) (now room) ⌝ }
-    ensures { λ _. ⌜ now (room .exit) ≡ laidAt (now (room .entry)) 0 (resultBytes g (results (now (number .entry)) (now (reason .entry)) (now (n0 .entry)) (now (n1 .entry)) (now (n2 .entry)) (now (n3 .entry)))) ⌝ }
+    requires { ⌜ Laying g (now s) (now reason) (now n0) (now n1) (now n2) (now n3) (now room) ⌝ }
+    ensures { λ _. ⌜ now (room .exit) ≡ laidAt (now (room .entry)) 0 (resultBytes g (results (numbersIn (now (s .entry)) (g .count)) (now (reason .entry)) (now (n0 .entry)) (now (n1 .entry)) (now (n2 .entry)) (now (n3 .entry)))) ⌝ }
 {
     let units = g.count as usize;
     lay_group_result(room, 0, g);
-    lay_unit_results(
-        room,
-        GroupResult::LEN,
-        number,
-        reason,
-        n0,
-        n1,
-        n2,
-        n3,
-        units,
-    );
+    lay_unit_results(room, GroupResult::LEN, s, reason, n0, n1, n2, n3, units);
 }

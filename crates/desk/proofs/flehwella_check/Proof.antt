@@ -4,7 +4,7 @@ use mir.Facts.{toZ-ofZ}
 use mir.Val.{SFits}
 use mir.Syntax.{w32}
 use Rattle.records.specs.Answers.{dayReply}
-use Rattle.desk.proofs.First.{refuses, day-out, day-in}
+use Rattle.desk.proofs.First.{refuses, day-out, day-in, day-permitted}
 use borrow.Author.Needs.{needs}
 use Rattle.desk.proofs.flehwella_check.Statement.{statement}
 use Rattle.desk.proofs.flehwella_check.Tie as tie
@@ -31,7 +31,9 @@ returns c =
     refuses _ _ (day-out _ _ _ e) (simp toZ-ofZ (rw (c .before .refusal .ensures, c .before .before .enum-told .given .1) at (c .minus .ensures)))
 
 check-first-requires : tie.Need-check-first-requires
-check-first-requires c κs = search needs
+check-first-requires c κs =
+    let e = sym (c .before .before .before .before .read-day .ensures) ∙ ap dayReply (c .before .before .d .given .1) in
+    day-permitted _ e
 
 same-length : tie.Need-same-length
 same-length c = search needs

@@ -2,6 +2,7 @@
 use Prim.Native.Nat.{_-_, _≤_}
 use mathlib.Core.Logic.{⊎-elim}
 use native.Mathlib.Omega.{arith}
+use native.Mathlib.Nat.{le-refl}
 use borrow.Author.Needs.{needs}
 use lib.ListN.{length}
 use Rattle.numbers.specs.Sum.{sumTo}
@@ -11,10 +12,10 @@ use Rattle.quota.proofs.cut_wholes.Statement.{statement}
 use Rattle.quota.proofs.cut_wholes.Tie as tie
 
 abbrev Inv-loop : tie.InvT-loop
-Inv-loop sizes t c cuts₀ keys₀ ranked₀ left₀ units₀ k₀ cuts keys ranked left units k = Wholes sizes c ranked₀ cuts keys ranked left units k
+Inv-loop sizes₀ t c cuts₀ ranked₀ left₀ units₀ k₀ sizes cuts ranked left units k = Wholes sizes₀ c ranked₀ cuts sizes ranked left units k
 
 abbrev μ-loop : tie.MeasureT-loop
-μ-loop sizes t c cuts₀ keys₀ ranked₀ left₀ units₀ k₀ cuts keys ranked left units k = length sizes - k
+μ-loop sizes₀ t c cuts₀ ranked₀ left₀ units₀ k₀ sizes cuts ranked left units k = length sizes₀ - k
 
 loop-holds : tie.Need-loop-holds Inv-loop μ-loop
 unfolding sumTo rankedOf
@@ -23,13 +24,15 @@ loop-holds c = search needs
 mul-share-of : tie.Need-mul-share-of Inv-loop μ-loop
 mul-share-of c = search needs
 
-shared-slice-read-share-of : tie.Need-shared-slice-read-share-of Inv-loop μ-loop
-shared-slice-read-share-of c = search needs
+slice-read-share-of : tie.Need-slice-read-share-of Inv-loop μ-loop
+slice-read-share-of c = search needs
 
 share-of-requires : tie.Need-share-of-requires Inv-loop μ-loop
 share-of-requires c κs =
-    let start = c .before .before .before .before .before .before .before in
-    (start .pre .0 .within, total-small (start .pre .0), start .pre .0 .sized .small (c .before .before .loop .k))
+    let start = c .before .before .before .before .before .before in
+    let asked = start .pre .0 in
+    let o = c .before .before .loop in
+    (asked .within, total-small asked, omega (arith, o .inv .todo (o .k) (le-refl (o .k)), asked .sized .small (o .k)))
 
 mul-cuts : tie.Need-mul-cuts Inv-loop μ-loop
 mul-cuts c = search needs
@@ -39,7 +42,7 @@ slice-write-cuts c = search needs
 
 sub-left : tie.Need-sub-left Inv-loop μ-loop
 sub-left c =
-    let asked = c .before .before .before .before .before .before .before .before .before .pre .0 in
+    let asked = c .before .before .before .before .before .before .before .before .pre .0 in
     let share = c .before .share-of in
     whole-left asked (c .before .before .before .before .loop .inv) (share .result .whole) (share .result .rest)
     (c .before .before .before .loop-test .taken) (share .ensures .0) (share .ensures .1)
@@ -47,7 +50,7 @@ sub-left c =
 -- a key fits where it is made
 small : (c : tie.After-struct-known2 Inv-loop μ-loop) → c .before .before .share-of .result .rest ≤ 64000000
 small c =
-    let start = c .before .before .before .before .before .before .before .before .before .before in
+    let start = c .before .before .before .before .before .before .before .before .before in
     let a = start .args in
     let asked = start .pre .0 in
     rest-small (a .c) _ (a .t) _ (asked .within) (total-small asked) (c .before .before .share-of .ensures .1)
@@ -64,11 +67,11 @@ sub-key c = search needs
 add-key : tie.Need-add-key Inv-loop μ-loop
 add-key c = omega (arith, small c)
 
-mul-keys : tie.Need-mul-keys Inv-loop μ-loop
-mul-keys c = search needs
+mul-sizes : tie.Need-mul-sizes Inv-loop μ-loop
+mul-sizes c = search needs
 
-slice-write-keys : tie.Need-slice-write-keys Inv-loop μ-loop
-slice-write-keys c = search needs
+slice-write-sizes : tie.Need-slice-write-sizes Inv-loop μ-loop
+slice-write-sizes c = search needs
 
 mul-ranked : tie.Need-mul-ranked Inv-loop μ-loop
 mul-ranked c = search needs
@@ -87,13 +90,13 @@ loop-less c = search needs
 
 loop-again : tie.Need-loop-again Inv-loop μ-loop
 loop-again c =
-    let pre = c .before .before .before .before .before .before .before .before .before .before .before .before .pre in
+    let pre = c .before .before .before .before .before .before .before .before .before .before .before .pre in
     let share = c .before .before .before .before .share-of in
     let w = share .result .whole in
     let r = share .result .rest in
     let inv = c .before .before .before .before .before .before .before .loop .inv in
     let l = c .before .before .before .before .before .before .loop-test .taken in
-    ⊎-elim (λ p. rw (p .1, p .2) (wholes-more (pre .0) inv w r l (share .ensures .0) (share .ensures .1) (p .0 .taken) (pre .2)))
+    ⊎-elim (λ p. rw (p .1, p .2) (wholes-more (pre .0) inv w r l (share .ensures .0) (share .ensures .1) (p .0 .taken) (pre .1)))
     (λ p. rw (p .1, p .2) (wholes-plain (pre .0) inv w r l (share .ensures .0) (share .ensures .1) (omega (arith, p .0 .left))))
     (c .if1 .came)
 
@@ -107,7 +110,7 @@ same-length-3 : tie.Need-same-length-3 Inv-loop μ-loop
 same-length-3 c = search needs
 
 returns : tie.Need-returns Inv-loop μ-loop
-returns c = wholes-end (c .before .before .before .before .before .before .pre .0) (c .before .loop .inv) (c .loop-test .left)
+returns c = wholes-end (c .before .before .before .before .before .pre .0) (c .before .loop .inv) (c .loop-test .left)
 
 pub cut-wholes-spec : {M : Type 1} → statement M
 cut-wholes-spec =
@@ -117,7 +120,7 @@ cut-wholes-spec =
     μ-loop
     loop-holds
     mul-share-of
-    shared-slice-read-share-of
+    slice-read-share-of
     share-of-requires
     mul-cuts
     slice-write-cuts
@@ -126,8 +129,8 @@ cut-wholes-spec =
     cast-key
     sub-key
     add-key
-    mul-keys
-    slice-write-keys
+    mul-sizes
+    slice-write-sizes
     mul-ranked
     slice-write-ranked
     add-units

@@ -30,9 +30,10 @@ returns c = refuses-room _ _ _ _ (rw (c .refusal .ensures, ← (c .before .befor
 
 take-units-requires : tie.Need-take-units-requires
 take-units-requires c κs =
-    let x = c .before .before .before .before .before .before .before .before .args in
+    let s = c .before .before .before .before .before .before .before .before in
+    let x = s .args in
     let p = group-passed (now (x .s)) (x .day .«record») (x .day .last) (sym (c .before .before .before .before .group-fields .ensures) ∙ ap groupReply (c .before .before .g .given .1)) in
-    rw (p .value) (p .most)
+    (s .pre .0, rw (p .value) (p .most))
 
 enum-known-b : tie.Need-enum-known-b
 enum-known-b c = search needs

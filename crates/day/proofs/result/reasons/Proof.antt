@@ -1,19 +1,22 @@
--- The loop's invariant: the reasons are told up to unit i. A turn stores the reason of its unit.
-use Prim.Native.Nat.{ℕ, _-_, _≤_}
+-- The loop's invariant: the reasons are told up to unit i, and from there on the marks stand. A turn reads the mark of its unit and stores its reason.
+use Prim.Native.Nat.{ℕ, _-_, _≤_, _<_}
+use mathlib.Core.Path.{_≡_, _∙_}
 use mathlib.Core.Bool.{Bool, false}
 use mathlib.Core.List.{List}
 use native.Mathlib.Omega.{arith}
 use borrow.Author.Needs.{needs}
 use denote.Ref.{now}
+use lib.Dec.{eqb}
 use lib.IntN.{ℤ}
 use lib.ListN.{length, getD}
 use mir.Syntax.{w32}
 use mir.Val.{SFits}
 use mir.Facts.{toZ-ofZ}
 use Rattle.numbers.specs.Column.{at}
+use Rattle.numbers.proofs.Columns.{column-at}
 use Rattle.group.specs.Steps.{reasonOf}
-use Rattle.day.specs.Blocks.{reasonColumn, Told}
-use Rattle.day.proofs.Filling.{Filled, fill-none, fill-more, fill-all}
+use Rattle.day.specs.Blocks.{reasonColumn, marked, Told}
+use Rattle.day.proofs.Filling.{Filled, fill-none, fill-more, fill-next, fill-all}
 use Rattle.day.proofs.result.reasons.Tie as tie
 use Rattle.day.proofs.result.reasons.Statement.{statement}
 
@@ -22,24 +25,31 @@ abbrev reasonAt : List Bool → List ℤ → List ℤ → List ℤ → List ℤ 
 reasonAt implicit n0 n1 n2 n3 step-down step-up i =
     reasonOf (getD implicit i false) (at n0 i) (at n1 i) (at n2 i) (at n3 i) (at step-down i) (at step-up i)
 
-record Going (implicit : List Bool) (n0 n1 n2 n3 step-down step-up : List ℤ) (reasons₀ reasons : List ℕ) (i : ℕ) : Type 0 where
+record Going (n0 n1 n2 n3 step-down step-up : List ℤ) (reasons₀ reasons : List ℕ) (i : ℕ) : Type 0 where
   pub within : i ≤ length n0
-  pub told : Told implicit n0 n1 n2 n3 step-down step-up reasons₀
-  pub filled : Filled (reasonAt implicit n0 n1 n2 n3 step-down step-up) (length n0) i reasons₀ reasons
+  pub told : Told n0 n1 n2 n3 step-down step-up reasons₀
+  pub filled : Filled (reasonAt (marked reasons₀) n0 n1 n2 n3 step-down step-up) (length n0) i reasons₀ reasons
+
+-- the mark of unit i stands where its reason will
+mark-stands : {n0 n1 n2 n3 step-down step-up : List ℤ} {reasons₀ reasons : List ℕ} {i : ℕ} → Going n0 n1 n2 n3 step-down step-up reasons₀ reasons i → i < length n0
+    → eqb (getD reasons i 0) 1 ≡ getD (marked reasons₀) i false
+unfolding marked
+mark-stands {reasons₀ = reasons₀} {reasons = reasons} {i = i} g h =
+    rw (fill-next _ _ _ i reasons 0 h (g .filled), column-at (λ (k : ℕ). eqb (getD reasons₀ k 0) 1) (length reasons₀) i false (omega (arith, g .told .reasons)))
 
 abbrev Inv-loop : tie.InvT-loop
-Inv-loop implicit n0 n1 n2 n3 step-down step-up reasons₀ i₀ reasons i = Going implicit n0 n1 n2 n3 step-down step-up reasons₀ reasons i
+Inv-loop n0 n1 n2 n3 step-down step-up reasons₀ i₀ reasons i = Going n0 n1 n2 n3 step-down step-up reasons₀ reasons i
 
 abbrev μ-loop : tie.MeasureT-loop
-μ-loop implicit n0 n1 n2 n3 step-down step-up reasons₀ i₀ reasons i = length n0 - i
+μ-loop n0 n1 n2 n3 step-down step-up reasons₀ i₀ reasons i = length n0 - i
 
 loop-holds : tie.Need-loop-holds Inv-loop μ-loop
 loop-holds c =
-    let s = c .before .before in
+    let s = c .before in
     record { within = omega arith; told = s .pre; filled = fill-none _ _ _ (s .pre .reasons) }
 
-shared-slice-read-reason : tie.Need-shared-slice-read-reason Inv-loop μ-loop
-shared-slice-read-reason c = omega arith
+slice-read-implicit : tie.Need-slice-read-implicit Inv-loop μ-loop
+slice-read-implicit c = omega (arith, c .before .before .loop .inv .filled .long)
 
 mul-reason : tie.Need-mul-reason Inv-loop μ-loop
 mul-reason c = omega arith
@@ -94,7 +104,7 @@ loop-again c =
     let b = c .before in
     let v = b .before .before .before .before .before .before .before .before .loop in
     let t = b .before .before .before .before .before .before .before .loop-test .taken in
-    let a = b .before .before .before .before .before .before .before .before .before .before .before .args in
+    let a = b .before .before .before .before .before .before .before .before .before .before .args in
     let inv = v .inv in
     let i = v .i in
     let f0 : SFits w32 (at (now (a .n0)) i) = record { sfits = b .before .before .before .before .before .reason-arg .given } in
@@ -106,7 +116,7 @@ loop-again c =
     record {
       within = omega arith;
       told = inv .told;
-      filled = fill-more _ _ _ i (v .reasons) _ t (simp toZ-ofZ at (c .reason .ensures)) (inv .filled);
+      filled = fill-more _ _ _ i (v .reasons) _ t (simp toZ-ofZ at (c .reason .ensures) ∙ rw (mark-stands inv t)) (inv .filled);
     }
 
 same-length : tie.Need-same-length Inv-loop μ-loop
@@ -126,7 +136,7 @@ reasons-spec =
     Inv-loop
     μ-loop
     loop-holds
-    shared-slice-read-reason
+    slice-read-implicit
     mul-reason
     shared-slice-copy-out-reason
     mul-reason-2

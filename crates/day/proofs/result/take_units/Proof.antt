@@ -8,93 +8,72 @@ use Rattle.day.proofs.result.take_units.Statement.{statement}
 cast-n : tie.Need-cast-n
 cast-n c = search needs
 
-array-borrow-prefix-number : tie.Need-array-borrow-prefix-number
-array-borrow-prefix-number c = search needs
-
-slice-aggregate-take-through : tie.Need-slice-aggregate-take-through
-slice-aggregate-take-through c = sym (length-take-le _ _ (c .before .before .before .before .before .pre))
-
 array-borrow-prefix-class : tie.Need-array-borrow-prefix-class
 array-borrow-prefix-class c = search needs
 
-slice-aggregate-take-through-2 : tie.Need-slice-aggregate-take-through-2
-slice-aggregate-take-through-2 c = sym (length-take-le _ _ (c .before .before .before .before .before .before .pre))
-
-array-borrow-prefix-implicit : tie.Need-array-borrow-prefix-implicit
-array-borrow-prefix-implicit c = search needs
-
-slice-aggregate-take-through-3 : tie.Need-slice-aggregate-take-through-3
-slice-aggregate-take-through-3 c = sym (length-take-le _ _ (c .before .before .before .before .before .before .before .pre))
+slice-aggregate-take-through : tie.Need-slice-aggregate-take-through
+slice-aggregate-take-through c = sym (length-take-le _ _ (c .before .before .before .before .before .pre .1))
 
 array-borrow-prefix-n0 : tie.Need-array-borrow-prefix-n0
 array-borrow-prefix-n0 c = search needs
 
-slice-aggregate-take-through-4 : tie.Need-slice-aggregate-take-through-4
-slice-aggregate-take-through-4 c = sym (length-take-le _ _ (c .before .before .before .before .before .before .before .before .pre))
-
-array-borrow-prefix-pc : tie.Need-array-borrow-prefix-pc
-array-borrow-prefix-pc c = search needs
-
-slice-aggregate-take-through-5 : tie.Need-slice-aggregate-take-through-5
-slice-aggregate-take-through-5 c = sym (length-take-le _ _ (c .before .before .before .before .before .before .before .before .before .pre))
+slice-aggregate-take-through-2 : tie.Need-slice-aggregate-take-through-2
+slice-aggregate-take-through-2 c = sym (length-take-le _ _ (c .before .before .before .before .before .before .pre .1))
 
 array-borrow-prefix-step-down : tie.Need-array-borrow-prefix-step-down
 array-borrow-prefix-step-down c = search needs
 
-slice-aggregate-take-through-6 : tie.Need-slice-aggregate-take-through-6
-slice-aggregate-take-through-6 c = sym (length-take-le _ _ (c .before .before .before .before .before .before .before .before .before .before .pre))
+slice-aggregate-take-through-3 : tie.Need-slice-aggregate-take-through-3
+slice-aggregate-take-through-3 c = sym (length-take-le _ _ (c .before .before .before .before .before .before .before .pre .1))
 
 array-borrow-prefix-step-up : tie.Need-array-borrow-prefix-step-up
 array-borrow-prefix-step-up c = search needs
 
-slice-aggregate-take-through-7 : tie.Need-slice-aggregate-take-through-7
-slice-aggregate-take-through-7 c = sym (length-take-le _ _ (c .before .before .before .before .before .before .before .before .before .before .before .pre))
+slice-aggregate-take-through-4 : tie.Need-slice-aggregate-take-through-4
+slice-aggregate-take-through-4 c = sym (length-take-le _ _ (c .before .before .before .before .before .before .before .before .pre .1))
 
 array-borrow-prefix-n1 : tie.Need-array-borrow-prefix-n1
 array-borrow-prefix-n1 c = search needs
 
-slice-aggregate-take-through-8 : tie.Need-slice-aggregate-take-through-8
-slice-aggregate-take-through-8 c = sym (length-take-le _ _ (c .before .before .before .before .before .before .before .before .before .before .before .before .pre))
+slice-aggregate-take-through-5 : tie.Need-slice-aggregate-take-through-5
+slice-aggregate-take-through-5 c = sym (length-take-le _ _ (c .before .before .before .before .before .before .before .before .before .pre .1))
 
 array-borrow-prefix-n2 : tie.Need-array-borrow-prefix-n2
 array-borrow-prefix-n2 c = search needs
 
-slice-aggregate-take-through-9 : tie.Need-slice-aggregate-take-through-9
-slice-aggregate-take-through-9 c = sym (length-take-le _ _ (c .before .before .before .before .before .before .before .before .before .before .before .before .before .pre))
+slice-aggregate-take-through-6 : tie.Need-slice-aggregate-take-through-6
+slice-aggregate-take-through-6 c = sym (length-take-le _ _ (c .before .before .before .before .before .before .before .before .before .before .pre .1))
 
 array-borrow-prefix-n3 : tie.Need-array-borrow-prefix-n3
 array-borrow-prefix-n3 c = search needs
 
-slice-aggregate-take-through-10 : tie.Need-slice-aggregate-take-through-10
-slice-aggregate-take-through-10 c = sym (length-take-le _ _ (c .before .before .before .before .before .before .before .before .before .before .before .before .before .before .pre))
+slice-aggregate-take-through-7 : tie.Need-slice-aggregate-take-through-7
+slice-aggregate-take-through-7 c = sym (length-take-le _ _ (c .before .before .before .before .before .before .before .before .before .before .before .pre .1))
 
 array-borrow-prefix-reason : tie.Need-array-borrow-prefix-reason
 array-borrow-prefix-reason c = search needs
 
-slice-aggregate-take-through-11 : tie.Need-slice-aggregate-take-through-11
-slice-aggregate-take-through-11 c = sym (length-take-le _ _ (c .before .before .before .before .before .before .before .before .before .before .before .before .before .before .before .pre))
+slice-aggregate-take-through-8 : tie.Need-slice-aggregate-take-through-8
+slice-aggregate-take-through-8 c = sym (length-take-le _ _ (c .before .before .before .before .before .before .before .before .before .before .before .before .pre .1))
 
 take-through-requires : tie.Need-take-through-requires
 take-through-requires c κs =
-    let h = c .before .before .before .before .before .before .before .before .before .before .before .before .before .before .before .pre in
+    let h = c .before .before .before .before .before .before .before .before .before .before .before .before .pre in
+    let n = h .1 in
     record {
-      values =
+      0 = h .0;
+      1 =
           record {
-            few = h;
-            numbers = length-take-le _ _ h;
-            classes = length-take-le _ _ h;
-            implicits = length-take-le _ _ h;
-            nominations = length-take-le _ _ h;
-            positions = length-take-le _ _ h;
-            downs = length-take-le _ _ h;
-            ups = length-take-le _ _ h;
-          };
-      steps =
-          record {
-            firsts = length-take-le _ _ h;
-            seconds = length-take-le _ _ h;
-            thirds = length-take-le _ _ h;
-            reasons = length-take-le _ _ h;
+            values =
+                record {
+                  few = n;
+                  classes = length-take-le _ _ n;
+                  marks = length-take-le _ _ n;
+                  nominations = length-take-le _ _ n;
+                  downs = length-take-le _ _ n;
+                  ups = length-take-le _ _ n;
+                };
+            steps = record { firsts = length-take-le _ _ n; seconds = length-take-le _ _ n; thirds = length-take-le _ _ n };
           };
     }
 
@@ -102,35 +81,29 @@ same-length : tie.Need-same-length
 same-length c = search needs
 
 returns : tie.Need-returns
-returns c = c .before .before .before .before .before .before .before .before .before .before .before .before .before .take-through .ensures
+returns c = c .before .before .before .before .before .before .before .before .before .before .take-through .ensures
 
 pub take-units-spec : {M : Type 1} → statement M
 take-units-spec =
     tie.close
     (tie.spec
     cast-n
-    array-borrow-prefix-number
-    slice-aggregate-take-through
     array-borrow-prefix-class
-    slice-aggregate-take-through-2
-    array-borrow-prefix-implicit
-    slice-aggregate-take-through-3
+    slice-aggregate-take-through
     array-borrow-prefix-n0
-    slice-aggregate-take-through-4
-    array-borrow-prefix-pc
-    slice-aggregate-take-through-5
+    slice-aggregate-take-through-2
     array-borrow-prefix-step-down
-    slice-aggregate-take-through-6
+    slice-aggregate-take-through-3
     array-borrow-prefix-step-up
-    slice-aggregate-take-through-7
+    slice-aggregate-take-through-4
     array-borrow-prefix-n1
-    slice-aggregate-take-through-8
+    slice-aggregate-take-through-5
     array-borrow-prefix-n2
-    slice-aggregate-take-through-9
+    slice-aggregate-take-through-6
     array-borrow-prefix-n3
-    slice-aggregate-take-through-10
+    slice-aggregate-take-through-7
     array-borrow-prefix-reason
-    slice-aggregate-take-through-11
+    slice-aggregate-take-through-8
     take-through-requires
     same-length
     returns)

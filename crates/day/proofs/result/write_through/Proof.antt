@@ -8,17 +8,17 @@ use Rattle.day.proofs.result.write_through.Tie as tie
 use Rattle.day.proofs.result.write_through.Statement.{statement}
 
 judged-requires : tie.Need-judged-requires
-judged-requires c κs = c .before .before .before .before .before .before .before .before .pre .judged
+judged-requires c κs = c .before .before .before .before .before .before .before .pre .judged
 
 reasons-requires : tie.Need-reasons-requires
-reasons-requires c κs = told-of (c .before .before .before .before .before .before .before .before .before .before .before .before .before .before .before .before .pre) (c .before .before .before .before .before .before .before .judged .ensures)
+reasons-requires c κs = told-of (c .before .before .before .before .before .before .before .before .before .before .before .before .before .before .before .pre) (c .before .before .before .before .before .before .before .judged .ensures)
 
 group-result-requires : tie.Need-group-result-requires
 group-result-requires c κs = search needs
 
 lay-results-requires : tie.Need-lay-results-requires
 lay-results-requires c κs =
-    let s = c .before .before .before .before .before .before .before .before .before .before .before .before .before .before .before .before .before .before .before .before .before .before .before .before .before in
+    let s = c .before .before .before .before .before .before .before .before .before .before .before .before .before .before .before .before .before .before .before .before .before .before .before .before in
     laying-of (s .pre) (c .before .before .before .before .before .before .before .before .before .before .before .before .before .before .before .before .judged .ensures) (s .args .key) (c .before .before .before .before .before .group-result .ensures) (c .before .before .before .before .before .before .before .before .reasons .ensures)
 
 same-length : tie.Need-same-length
@@ -38,7 +38,7 @@ same-length-5 c = search needs
 
 returns : tie.Need-returns
 returns c =
-    let s = c .before .before .before .before .before .before .before .before .before .before .before .before .before .before .before .before .before .before .before .before .before .before .before .before .before .before .before .before in
+    let s = c .before .before .before .before .before .before .before .before .before .before .before .before .before .before .before .before .before .before .before .before .before .before .before .before .before .before .before in
     c .before .before .lay-results .ensures
     ∙ ap (laidAt (now (s .args .room)) 0)
     (result-of (s .pre) (c .before .before .before .before .before .before .before .before .before .before .before .before .before .before .before .before .before .before .before .judged .ensures) (s .args .key) (c .before .before .before .before .before .before .before .before .group-result .ensures) (c .before .before .before .before .before .before .before .before .before .before .before .reasons .ensures))

@@ -1,4 +1,4 @@
--- `step2_all` meets its contract, which is that of `cut_through` over its three columns of 64; with no excess nothing is cut.
+-- `step2_all` meets its contract, which is that of `cut_through` over its two columns of 64; with no excess nothing is cut.
 use mathlib.Core.Path.{_≡_, sym, _∙_}
 use denote.Ref.{now}
 use lib.IntN.{pos}
@@ -6,7 +6,7 @@ use lib.Seq.{length-take-le}
 use mir.Facts.{toZ-ofZ}
 use mir.Syntax.{w32}
 use Rattle.numbers.proofs.Integers.{ofZ-inj, zero-fits}
-use Rattle.group.proofs.Wholly.{kept}
+use Rattle.group.proofs.Uncut.{kept}
 use borrow.Author.Needs.{needs}
 use Rattle.group.proofs.cut.step2_all.Statement.{statement}
 use Rattle.group.proofs.cut.step2_all.Tie as tie
@@ -29,31 +29,25 @@ array-borrow-prefix-sizes c = search needs
 slice-aggregate-cut-through : tie.Need-slice-aggregate-cut-through
 slice-aggregate-cut-through c = sym (length-take-le _ _ (c .before .before .before .before .pre .classed .few))
 
-array-borrow-prefix-first : tie.Need-array-borrow-prefix-first
-array-borrow-prefix-first c = search needs
+array-borrow-prefix-cuts : tie.Need-array-borrow-prefix-cuts
+array-borrow-prefix-cuts c = search needs
 
 slice-aggregate-cut-through-2 : tie.Need-slice-aggregate-cut-through-2
 slice-aggregate-cut-through-2 c = sym (length-take-le _ _ (c .before .before .before .before .before .pre .classed .few))
 
-array-borrow-prefix-second : tie.Need-array-borrow-prefix-second
-array-borrow-prefix-second c = search needs
-
-slice-aggregate-cut-through-3 : tie.Need-slice-aggregate-cut-through-3
-slice-aggregate-cut-through-3 c = sym (length-take-le _ _ (c .before .before .before .before .before .before .pre .classed .few))
-
 cut-through-requires : tie.Need-cut-through-requires
 cut-through-requires c κs =
-    let s = c .before .before .before .before .before .before in
+    let s = c .before .before .before .before .before in
     let h = s .pre .classed .few in
-    (rw (toZ-ofZ (s .fits .e)) (s .pre), (length-take-le _ _ h, (length-take-le _ _ h, length-take-le _ _ h)))
+    (rw (toZ-ofZ (s .fits .e)) (s .pre), (length-take-le _ _ h, length-take-le _ _ h))
 
 same-length-2 : tie.Need-same-length-2
 same-length-2 c = search needs
 
 returns-2 : tie.Need-returns-2
 returns-2 c =
-    let s = c .before .before .before .before .before .before .before .before .before .before .before in
-    rw (toZ-ofZ (s .fits .e)) at (c .before .before .before .before .cut-through .ensures)
+    let s = c .before .before .before .before .before .before .before .before .before in
+    rw (toZ-ofZ (s .fits .e)) at (c .before .before .before .cut-through .ensures)
 
 pub step2-all-spec : {M : Type 1} → statement M
 step2-all-spec =
@@ -64,10 +58,8 @@ step2-all-spec =
     returns
     array-borrow-prefix-sizes
     slice-aggregate-cut-through
-    array-borrow-prefix-first
+    array-borrow-prefix-cuts
     slice-aggregate-cut-through-2
-    array-borrow-prefix-second
-    slice-aggregate-cut-through-3
     cut-through-requires
     same-length-2
     returns-2)

@@ -3,6 +3,7 @@ use native.Mathlib.Omega.{arith}
 use denote.Ref.{now}
 use Rattle.numbers.proofs.Laid.{laid-next}
 use Rattle.records.specs.Layouts.{groupResultBytes}
+use Rattle.records.specs.Decoding.{numbersIn}
 use Rattle.writers.specs.Results.{results, resultBytes, unitResultsBytes}
 use Rattle.writers.proofs.Lengths.{length-group-result, length-results}
 use borrow.Author.Needs.{needs}
@@ -29,7 +30,7 @@ returns c =
     let s = c .before .before .before .before .before .before .before .before .before .before .before .before in
     let a = s .args in
     let g = a .g in
-    let r = results (now (a .number)) (now (a .reason)) (now (a .n0)) (now (a .n1)) (now (a .n2)) (now (a .n3)) in
+    let r = results (numbersIn (now (a .s)) (g .count)) (now (a .reason)) (now (a .n0)) (now (a .n1)) (now (a .n2)) (now (a .n3)) in
     let m = length-group-result g in
     let n = length-results r (g .count) in
     laid-next (now (a .room)) 0 (groupResultBytes g) 27 (unitResultsBytes r (g .count)) (d1 .lay-group-result .ensures) (d2 .lay-unit-results .ensures) (omega arith) (omega (arith, s .pre .enough))
