@@ -22,9 +22,9 @@ OPEN, CLOSE = "([{", ")]}"
 class Mutant:
     """One replacement in one file: the characters from `start` to `end` become `new`."""
 
-    def __init__(self, crate, path, name, start, end, new, of_constant):
+    def __init__(self, crate, path, name, start, end, new, constant):
         self.crate, self.path, self.name = crate, path, name
-        self.start, self.end, self.new, self.of_constant = start, end, new, of_constant
+        self.start, self.end, self.new, self.constant = start, end, new, constant
 
     def of(self, text):
         return text[: self.start] + self.new + text[self.end :]
@@ -111,7 +111,7 @@ class Region:
         line = self.text.count("\n", self.start, at)
         column = at - self.text.rfind("\n", 0, at)
         name = f"{self.crate}/{self.path.name}:{self.name}:{line}:{column}-{edit}"
-        return Mutant(self.crate, self.path, name, at, end, new, self.kinds is None)
+        return Mutant(self.crate, self.path, name, at, end, new, self.name if self.kinds is None else None)
 
     def is_literal(self, i):
         """Whether the brace opens a struct literal."""
