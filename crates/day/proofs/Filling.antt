@@ -1,12 +1,11 @@
 -- A loop that fills a lent column from the front: the entries passed are f's, and the others are as they were.
-use Prim.Native.Nat.{ℕ, suc, _+_, _≤_, _<_}
+use Prim.Native.Nat.{ℕ, _+_, _≤_, _<_}
 use mathlib.Core.Path.{_≡_, sym, _∙_}
 use mathlib.Core.List.{List, _++_}
 use native.Mathlib.Omega.{arith}
-use lib.ListN.{length, getD, set, drop, length-set}
-use lib.Seq.{drop-cons, getD-at}
+use lib.ListN.{length, set, drop, length-set}
 use Rattle.numbers.specs.Column.{column}
-use Rattle.numbers.proofs.Columns.{column-length, column-none, column-more, column-all}
+use Rattle.numbers.proofs.Columns.{column-none, column-more, column-all}
 
 pub record Filled {X : Type 0} (f : ℕ → X) (count i : ℕ) (entry col : List X) : Type 0 where
   pub first : length entry ≡ count
@@ -24,11 +23,6 @@ module _ {X : Type 0} (f : ℕ → X) (count : ℕ) (entry : List X) where
         long = simp length-set (fill .long);
         so = rw (fill .so, e) (column-more f i entry (f 0) (omega (arith, fill .first)));
       }
-
-  -- the entry that is filled next is as it was
-  pub fill-next : (i : ℕ) (col : List X) (d : X) → i < count → Filled f count i entry col → getD col i d ≡ getD entry i d
-  fill-next i col d h fill =
-      rw (fill .so, drop-cons entry i d (omega (arith, fill .first))) (getD-at (column i f) (getD entry i d) (drop (suc i) entry) d i (column-length f i))
 
   pub fill-all : (i : ℕ) (col : List X) → i ≤ count → count ≤ i → Filled f count i entry col → col ≡ column count f
   fill-all i col h k fill =

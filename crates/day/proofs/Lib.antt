@@ -1,6 +1,7 @@
 -- Laws of the day.
 pub mod Lengths
 pub mod Filling
+pub mod Laying
 pub mod Read
 pub mod Units
 pub mod Passing

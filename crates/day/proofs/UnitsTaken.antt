@@ -7,7 +7,6 @@ use borrow.Author.Tests.{lt-leb, le-leb}
 use lib.Dec.{leb}
 use lib.ListN.{length}
 use Rattle.numbers.specs.Bytes.{laidAt}
-use Rattle.numbers.specs.Sum.{sumZ}
 use Rattle.terms.specs.Reply.{Reply, is, refused, need, next}
 use Rattle.terms.specs.Refusals.{refusal}
 use Rattle.terms.specs.declared.refusal.Refusal.{Refusal}
@@ -15,7 +14,6 @@ use Rattle.terms.specs.declared.refusal.Why.the-variants as W
 use Rattle.terms.proofs.Replies.{never, need-is, next-is}
 use Rattle.records.specs.declared.group.GroupRecord.{GroupRecord}
 use Rattle.records.specs.Reading.{keyOf, groupFieldsOf, unitsOf}
-use Rattle.records.specs.Decoding.{pcIn}
 use Rattle.day.specs.declared.value.Day.{Day}
 use Rattle.day.specs.declared.check.Block.{Block}
 use Rattle.day.specs.declared.check.BlockAnswer.the-variants as B
@@ -24,7 +22,7 @@ use Rattle.day.specs.declared.offer.Step.{Step}
 use Rattle.day.specs.declared.offer.Offered.the-variants as O
 use Rattle.day.specs.Days.{counted}
 use Rattle.day.specs.Checking.{blockOf, blockFieldsOf}
-use Rattle.day.specs.Blocks.{resultIn, blockResult, unitsTaken, laidAfter, unitsRead, Taking}
+use Rattle.day.specs.Blocks.{resultIn, blockResult, unitsTaken, laidAfter, unitsFrom, unitsRead, Taking}
 use Rattle.day.specs.Offers.{blockTaken, Offering}
 use Rattle.day.proofs.Read.{group-passed}
 use Rattle.day.proofs.Taking.{refuses-room, takes-room, result-length}
@@ -34,7 +32,7 @@ units-refused : (s : List ℕ) (count run limit : ℕ) (f : Refusal) → unitsRe
 unfolding unitsRead next
 units-refused s count run limit f = go (unitsOf s 10 0 run limit count)
   where
-    go : (x : Reply ℕ) → _≡_ {A = Reply Units} (next x λ end. is (record { end = end; p = record { 0 = sumZ (pcIn s count) } })) (refusal f) → x ≡ refusal f
+    go : (x : Reply ℕ) → _≡_ {A = Reply Units} (next x λ end. is (unitsFrom s count end)) (refusal f) → x ≡ refusal f
     go (is end) e = never (sym e)
     go (refused n p) e = cc e
 

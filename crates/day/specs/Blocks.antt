@@ -1,13 +1,12 @@
 -- "House records": the result of a block, by "The steps" over the values that the layouts give.
-use Prim.Native.Nat.{ℕ, _+_, _*_, _≤_}
+use Prim.Native.Nat.{ℕ, _≤_}
 use mathlib.Core.Path.{_≡_}
 use mathlib.Core.Bool.{Bool, false}
 use mathlib.Core.List.{List}
-use lib.Dec.{eqb, leb}
+use lib.Dec.{leb}
 use lib.IntN.{ℤ}
 use lib.ListN.{length, getD}
 use Rattle.numbers.specs.Bytes.{laidAt}
-use Rattle.numbers.specs.Choice.{pick}
 use Rattle.numbers.specs.Column.{column, at}
 use Rattle.numbers.specs.Sum.{sumZ}
 use Rattle.terms.specs.Reply.{Reply, is, refused, need, next}
@@ -16,15 +15,14 @@ use Rattle.terms.specs.declared.refusal.Refusal.{Refusal}
 use Rattle.group.specs.Steps.{reasonOf}
 use Rattle.group.specs.Group.{Group, units, n1, n2, n3}
 use Rattle.group.specs.Columns.{columns, sumsOf}
-use Rattle.group.specs.Asked.{Judged}
 use Rattle.group.specs.declared.judge.Sums.{Sums}
 use Rattle.records.specs.declared.group.GroupRecord.{GroupRecord}
 use Rattle.records.specs.declared.key.Key.{Key}
 use Rattle.records.specs.declared.group_result.GroupResult.{GroupResult}
 use Rattle.records.specs.Answers.{noRefusal}
-use Rattle.records.specs.Layouts.{groupLength, unitLength, groupAt}
-use Rattle.records.specs.Reading.{keyOf, unitsOf, unitIn}
-use Rattle.records.specs.Decoding.{unitImplicit, numbersIn, classesIn, implicitsIn, n0In, pcIn, stepDownIn, stepUpIn}
+use Rattle.records.specs.Layouts.{groupLength, groupAt}
+use Rattle.records.specs.Reading.{keyOf, unitsOf}
+use Rattle.records.specs.Decoding.{numbersIn, classesIn, implicitsIn, n0In, pcIn, stepDownIn, stepUpIn}
 use Rattle.writers.specs.Results.{Results, results, resultLength, resultBytes}
 use Rattle.day.specs.declared.check.Block.{Block}
 use Rattle.day.specs.declared.check.BlockAnswer.{BlockAnswer}
@@ -97,48 +95,16 @@ laidAfter (is block) bytes room = laidAt room 0 bytes
 laidAfter (refused number place) bytes room = room
 
 -- ---- what the inner functions ask for, and what they leave
--- which units a column marks with 1, and the marks of the units whose nomination is implicit
-unfoldable pub marked : List ℕ → List Bool
-marked mark = column (length mark) λ i. eqb (getD mark i 0) 1
-
-abbrev pub marksIn : List ℕ → ℕ → List ℕ
-marksIn s count = column count λ i. pick (unitImplicit (unitIn s i)) 1 0
-
--- the six columns that reasons are told from, and theirs, are of one length
-pub record Told (n0 n1 n2 n3 stepDown stepUp : List ℤ) (reason : List ℕ) : Type 0 where
-  pub firsts : length n1 ≡ length n0
-  pub seconds : length n2 ≡ length n0
-  pub thirds : length n3 ≡ length n0
-  pub downs : length stepDown ≡ length n0
-  pub ups : length stepUp ≡ length n0
-  pub reasons : length reason ≡ length n0
-
 -- columns of exactly so many entries, of which a group has at most 64
-pub record UnitRoom (count : ℕ) (class mark : List ℕ) (n0 stepDown stepUp : List ℤ) : Type 0 where
+pub record UnitRoom (count : ℕ) (class : List ℕ) (first : List ℤ) : Type 0 where
   pub few : count ≤ 64
   pub classes : length class ≡ count
-  pub marks : length mark ≡ count
-  pub nominations : length n0 ≡ count
-  pub downs : length stepDown ≡ count
-  pub ups : length stepUp ≡ count
+  pub firsts : length first ≡ count
 
-pub record StepRoom (count : ℕ) (n1 n2 n3 : List ℤ) : Type 0 where
-  pub firsts : length n1 ≡ count
-  pub seconds : length n2 ≡ count
-  pub thirds : length n3 ≡ count
-
-pub record Working
-    (count : ℕ) (class : List ℕ) (n0 stepDown stepUp n1 n2 n3 : List ℤ) (reason : List ℕ) : Type 0 where
-  pub values : UnitRoom count class reason n0 stepDown stepUp
-  pub steps : StepRoom count n1 n2 n3
-
--- the columns are those of the first so many units of a block
-pub record Decoded (s : List ℕ) (count : ℕ) (class mark : List ℕ) (n0 stepDown stepUp : List ℤ) : Type 0 where
+-- they are class and n1 of the first so many units of a block
+pub record Decoded (s : List ℕ) (count : ℕ) (class : List ℕ) (first : List ℤ) : Type 0 where
   pub classes : class ≡ classesIn s count
-  pub marks : mark ≡ marksIn s count
-  pub nominations : n0 ≡ n0In s count
-  pub downs : stepDown ≡ stepDownIn s count
-  pub ups : stepUp ≡ stepUpIn s count
+  pub firsts : first ≡ n1 (groupIn s count)
 
 -- an answer of units as a reply, and its refusal
 abbrev pub unitsReply : UnitsAnswer → Reply Units
@@ -149,26 +115,44 @@ abbrev pub unitsRefusal : UnitsAnswer → Refusal
 unitsRefusal (U.Is u) = noRefusal
 unitsRefusal (U.Refused r) = r
 
--- the units of a block are read: where they end, and P
+-- the units of a block are read: P, where they end, and S1
+abbrev pub unitsFrom : List ℕ → ℕ → ℕ → Units
+unitsFrom s count end = record { p = record { 0 = sumZ (pcIn s count) }; end = end; s1 = record { 0 = sumZ (n1 (groupIn s count)) } }
+
 unfoldable pub unitsRead : List ℕ → ℕ → ℕ → ℕ → Reply Units
 unitsRead s count run limit =
     next (unitsOf s groupLength 0 run limit count) λ end.
-    is (record { end = end; p = record { 0 = sumZ (pcIn s count) } })
+    is (unitsFrom s count end)
 
 -- the answer is the right one, and where no unit is refused the columns are theirs
-pub record UnitsRead
-    (s : List ℕ) (count run limit : ℕ) (r : UnitsAnswer) (class mark : List ℕ) (n0 stepDown stepUp : List ℤ) : Type 0 where
+pub record UnitsRead (s : List ℕ) (count run limit : ℕ) (r : UnitsAnswer) (class : List ℕ) (first : List ℤ) : Type 0 where
   pub replied : unitsReply r ≡ unitsRead s count run limit
-  pub decoded : (u : Units) → unitsReply r ≡ is u → Decoded s count class mark n0 stepDown stepUp
+  pub decoded : (u : Units) → unitsReply r ≡ is u → Decoded s count class first
 
--- a block of so many units that may be judged, its columns, and room for its result
-pub record Writable
-    (s : List ℕ) (count : ℕ) (p : ℤ) (class : List ℕ) (n0 stepDown stepUp n1 n2 n3 : List ℤ) (reason room : List ℕ) : Type 0 where
-  pub judged : Judged p n0 stepDown stepUp class n1 n2 n3
-  pub decoded : Decoded s count class reason n0 stepDown stepUp
-  pub position : p ≡ sumZ (pcIn s count)
-  pub bytes : groupLength + unitLength * count ≤ length s
-  pub enough : resultLength count ≤ length room
+-- a column of zeros for the losses
+abbrev pub zeros : ℕ → List ℕ
+zeros count = column count λ _. 0
+
+-- columns to work with, and a block whose group record is that given
+pub record Working (s : List ℕ) (group : GroupRecord) (class : List ℕ) (first : List ℤ) (losses : List ℕ) : Type 0 where
+  pub long : groupLength ≤ length s
+  pub own : group ≡ groupAt s 0
+  pub values : UnitRoom (group .count) class first
+  pub clear : losses ≡ zeros (group .count)
+
+-- a block whose units passed at some run and limit: P, S1 and its columns, a column of zeros, and room for its result
+pub record Writable (s : List ℕ) (p s1 : ℤ) (class : List ℕ) (first : List ℤ) (losses room : List ℕ) : Type 0 where
+  pub run : ℕ
+  pub limit : ℕ
+  pub end : ℕ
+  pub long : groupLength ≤ length s
+  pub few : blockCount s ≤ 64
+  pub passed : unitsOf s groupLength 0 run limit (blockCount s) ≡ is end
+  pub position : p ≡ sumZ (pcIn s (blockCount s))
+  pub first-sum : s1 ≡ sumZ (n1 (blockGroup s))
+  pub decoded : Decoded s (blockCount s) class first
+  pub clear : losses ≡ zeros (blockCount s)
+  pub enough : resultLength (blockCount s) ≤ length room
 
 -- the answer and the room are the right ones
 pub record Taking (right : Reply Block) (bytes entry : List ℕ) (r : BlockAnswer) (exit : List ℕ) : Type 0 where

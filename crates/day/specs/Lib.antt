@@ -2,5 +2,6 @@
 pub mod Days
 pub mod Checking
 pub mod Blocks
+pub mod Laying
 pub mod Offers
 pub mod WholeDays

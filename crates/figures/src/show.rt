@@ -10,6 +10,7 @@ use group::judge::Judgement;
 use group::judge::Sums;
 use group::judge::judge;
 use group::unit::reason;
+use group::unit::zero_outside;
 use terms::refusal::Refusal;
 
 // The widest margins, LOW and HIGH.
@@ -53,7 +54,8 @@ fn reasons(
     text(b" reasons");
     let mut i = 0;
     while i < n0.len() {
-        let sum = reason(taken, n0[i], n1[i], n2[i], n3[i], step_down[i], step_up[i]);
+        let outside = zero_outside(n3[i], step_down[i], step_up[i]);
+        let sum = reason(taken, n0[i], n1[i], n2[i], n3[i], outside);
         named(b" ", sum as i32);
         i += 1;
     }

@@ -23,11 +23,11 @@ use Rattle.terms.specs.declared.refusal.Fault.the-variants as F
 use Rattle.terms.proofs.Replies.{need-is, next-is}
 use Rattle.terms.proofs.Passing.{passes}
 use Rattle.terms.proofs.Scan.{all-fine}
-use Rattle.group.specs.Group.{Group, units, position, n1}
+use Rattle.group.specs.Group.{Group, units, position, excess, n1}
 use Rattle.group.specs.Columns.{unitCheck, unitChecks, lengths, oneLength, countPermitted, sumsOf, judgeOf}
-use Rattle.group.specs.Asked.{Level, Judged, Classed}
+use Rattle.group.specs.Asked.{Level, Judged, Bearable}
 use Rattle.group.specs.declared.judge.Sums.{Sums}
-use Rattle.group.proofs.Judging.{n1-classed}
+use Rattle.group.proofs.Judging.{n1-bearable}
 
 -- the fields of a unit that passes its checks
 pub record Sound (class : ℕ) (n0 pc stepDown stepUp : ℤ) : Type 0 where
@@ -160,6 +160,6 @@ accepted g first second third e =
     let c = next-is (unitsFrom (unitChecks g) 0 (units g)) (λ _. is (sumsOf g)) (b .1) in
     accepted-by g first second third (a .0) (b .0) (c .1 .0)
 
--- n1 of such a group is a column that can be cut
-pub classed : (g : Group) → Accepted g → Classed (n1 g) (g .class)
-classed g a = n1-classed (judged-by g {first = g .n0} {second = g .n0} {third = g .n0} a refl refl refl)
+-- n1 of such a group is a column that can be cut, and bears its excess
+pub bearable-of : (g : Group) → Accepted g → Bearable (excess g) (n1 g) (g .class)
+bearable-of g a = n1-bearable (judged-by g {first = g .n0} {second = g .n0} {third = g .n0} a refl refl refl)

@@ -23,7 +23,7 @@ use Rattle.quota.specs.Quota.{cutsOf, Fair}
 use Rattle.quota.proofs.Fairness.{fair, length-cuts, cuts-within, cuts-total, cuts-all}
 use Rattle.group.specs.Steps.{directionOf, nearerBy}
 use Rattle.group.specs.Group.{sizeOf, sizesOf, shareOf, cutsFor, taken, step2All}
-use Rattle.group.specs.Asked.{Classed}
+use Rattle.group.specs.Asked.{Classed, lossAt}
 use Rattle.group.proofs.Sides.{size-in, no-size, sizes-length, size-at, size-of, size-not, both-standings}
 use Rattle.group.proofs.Bearing.{Toward, Bears}
 
@@ -44,10 +44,6 @@ nearer Withdrawals n c h =
 pub nearer-none : (d : Direction) → nearerBy d (pos 0) 0 ≡ pos 0
 nearer-none Injections = refl
 nearer-none Withdrawals = refl
-
--- what a unit loses, of the one standing or the other
-abbrev pub lossAt : ℤ → List ℤ → List ℕ → ℕ → ℕ
-lossAt e n1 class i = getD (cutsFor e NotEnabled n1 class) i 0 + getD (cutsFor e Enabled n1 class) i 0
 
 module _ (e : ℤ) (n1 : List ℤ) (class : List ℕ) (bears : Bears e n1 class) where
   -- no standing is to lose more than it has

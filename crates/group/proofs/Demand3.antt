@@ -21,13 +21,13 @@ use Rattle.terms.specs.declared.quantity.Direction.{Direction}
 use Rattle.terms.specs.declared.quantity.Direction.the-variants.{Injections, Withdrawals}
 use Rattle.group.specs.Steps.{directionOf}
 use Rattle.group.specs.Group.{Group, units, position, band, excess, sizesOf, shareOf, n1, n2, n3}
-use Rattle.group.specs.Asked.{Classed}
+use Rattle.group.specs.Asked.{Classed, lossAt}
 use Rattle.group.proofs.Sides.{size-in}
-use Rattle.group.proofs.Bearing.{Toward, Bears, bearable}
+use Rattle.group.proofs.Bearing.{Toward, Bears}
 use Rattle.group.proofs.Ranges.{step1-length, step2-length}
 use Rattle.group.proofs.Landing.{landed, sum-less}
 use Rattle.group.proofs.Margins.{all-inside}
-use Rattle.group.proofs.Accepting.{Accepted, classed}
+use Rattle.group.proofs.Accepting.{Accepted, bearable-of}
 use Rattle.group.proofs.Cuts as law
 
 -- the direction cut
@@ -70,12 +70,12 @@ sign e n =
 
 module _ (g : Group) (accepted : Accepted g) where
   n1-classed : Classed (n1 g) (g .class)
-  n1-classed = classed g accepted
+  n1-classed = bearable-of g accepted .classed
 
   bears : Bears (excess g) (n1 g) (g .class)
-  bears = bearable (position g) (n1 g) (g .class) n1-classed
+  bears = bearable-of g accepted .borne
 
-  moved : (i : ℕ) → law.Nearer (direction g) (at (n1 g) i) (law.lossAt (excess g) (n1 g) (g .class) i) (at (n2 g) i)
+  moved : (i : ℕ) → law.Nearer (direction g) (at (n1 g) i) (lossAt (excess g) (n1 g) (g .class) i) (at (n2 g) i)
   moved i = law.step2-nearer (excess g) (n1 g) (g .class) bears n1-classed i
 
   same : (i : ℕ) → cut g i ≡ 0 → at (n2 g) i ≡ at (n1 g) i
@@ -98,7 +98,7 @@ module _ (g : Group) (accepted : Accepted g) where
 
   -- 1. The total cut equals the amount by which S1 lies beyond its band,
   pub total-cut : sumTo (units g) (cut g) ≡ natAbs (excess g)
-  total-cut = over-units (cut g) (law.lossAt (excess g) (n1 g) (g .class)) (λ i. moved i .lost) ∙ law.losses (excess g) (n1 g) (g .class) bears n1-classed
+  total-cut = over-units (cut g) (lossAt (excess g) (n1 g) (g .class)) (λ i. moved i .lost) ∙ law.losses (excess g) (n1 g) (g .class) bears n1-classed
 
   -- so S2 is S1 less that:
   pub sum-moved : sumZ (n2 g) ≡ sumZ (n1 g) -ℤ excess g
@@ -131,7 +131,7 @@ module _ (g : Group) (accepted : Accepted g) where
   -- 3. No enabled unit loses a kWh while a not-enabled one of that direction has one left.
   pub enabled-last : (i j : ℕ) → Of g Enabled i → (at (n2 g) i ≡ at (n1 g) i → ⊥) → Of g NotEnabled j → 0 < size g j → at (n2 g) j ≡ pos 0
   enabled-last i j hi ne hj l =
-      let all : law.lossAt (excess g) (n1 g) (g .class) j ≡ size g j =
+      let all : lossAt (excess g) (n1 g) (g .class) j ≡ size g j =
       law.enabled-last (excess g) (n1 g) (g .class) bears n1-classed i j hi (omega (arith, differs i ne, moved i .lost)) hj in
       gone (direction g) (moved j .toward) l (omega (arith, moved j .left))
 
@@ -139,7 +139,7 @@ module _ (g : Group) (accepted : Accepted g) where
   pub class-cut : (k : Standing) → sumTo (units g) (λ i. pick (standing k (getD (g .class) i 0)) (cut g i) 0) ≡ classCut g k
   class-cut k =
       over-units (λ i. pick (standing k (getD (g .class) i 0)) (cut g i) 0)
-      (λ i. pick (standing k (getD (g .class) i 0)) (law.lossAt (excess g) (n1 g) (g .class) i) 0)
+      (λ i. pick (standing k (getD (g .class) i 0)) (lossAt (excess g) (n1 g) (g .class) i) 0)
       (λ i. ap (λ (c : ℕ). pick (standing k (getD (g .class) i 0)) c 0) (moved i .lost))
       ∙ law.class-losses (excess g) (n1 g) (g .class) bears n1-classed k
 

@@ -16,7 +16,7 @@ use Rattle.numbers.proofs.Sums.{sum64-within}
 use Rattle.group.specs.Steps.{bandOf, excessOf}
 use Rattle.group.specs.Group.{Group, position, step1All, step2All, step3All, n1, n2, n3}
 use Rattle.group.specs.Columns.{sumsOf, sumsBy}
-use Rattle.group.specs.Asked.{Classed, Judged, Written}
+use Rattle.group.specs.Asked.{Classed, Bearable, Judged, Written}
 use Rattle.group.specs.declared.band.Band.{Band}
 use Rattle.group.specs.declared.judge.Sums.{Sums}
 use Rattle.group.proofs.Bearing.{bearable}
@@ -47,6 +47,9 @@ module _ {p : ℤ} {n0 stepDown stepUp : List ℤ} {class : List ℕ} {first sec
         known = h .known;
       }
 
+  pub n1-bearable : Bearable e x1 class
+  n1-bearable = record { classed = n1-classed; borne = bearable p x1 class n1-classed }
+
   pub n2-length : length x2 ≡ length n0
   n2-length = step2-length e x1 class ∙ n1-length
 
@@ -54,7 +57,7 @@ module _ {p : ℤ} {n0 stepDown stepUp : List ℤ} {class : List ℕ} {first sec
   n2-few = omega (arith, n2-length, h .few)
 
   pub n2-small : AllWithin 1000000 x2
-  n2-small = step2-small e x1 class n1-classed (bearable p x1 class n1-classed)
+  n2-small = step2-small e x1 class n1-classed (n1-bearable .borne)
 
   pub n3-few : length x3 ≤ 64
   n3-few = omega (arith, step3-length x2 stepDown stepUp, n2-few)

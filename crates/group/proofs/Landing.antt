@@ -16,11 +16,11 @@ use Rattle.terms.specs.declared.quantity.Direction.{Direction}
 use Rattle.terms.specs.declared.quantity.Direction.the-variants.{Injections, Withdrawals}
 use Rattle.group.specs.Steps.{bandOf, excessOf, directionOf, nearerBy}
 use Rattle.group.specs.Group.{taken, step2All}
-use Rattle.group.specs.Asked.{Classed}
+use Rattle.group.specs.Asked.{Classed, lossAt}
 use Rattle.group.specs.declared.band.Band.{Band}
 use Rattle.group.proofs.Bands.{low-zero, high-zero}
 use Rattle.group.proofs.Bearing.{Bears, excess-ind}
-use Rattle.group.proofs.Cuts.{nearer-none, lossAt, losses}
+use Rattle.group.proofs.Cuts.{nearer-none, losses}
 
 nearer-plus : (d : Direction) (a b : ℤ) (m n : ℕ) → nearerBy d a m +ℤ nearerBy d b n ≡ nearerBy d (a +ℤ b) (m + n)
 nearer-plus Injections a b m n =

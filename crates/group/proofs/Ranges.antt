@@ -4,29 +4,23 @@ use mathlib.Core.Path.{_≡_}
 use mathlib.Core.Bool.{Bool, true, false, _&&_}
 use mathlib.Core.List.{List}
 use native.Mathlib.Omega.{arith}
-use native.Mathlib.Nat.{le-trans}
 use lib.IntN.{ℤ, pos}
 use lib.ListN.{length, getD}
 use lib.Signed.{ltZ}
 use Rattle.numbers.specs.Range.{Within}
 use Rattle.numbers.specs.Choice.{pick}
 use Rattle.numbers.specs.Column.{at, AllWithin}
-use Rattle.numbers.specs.Sum.{sum}
 use Rattle.numbers.proofs.Integers.{zarith}
-use Rattle.numbers.proofs.Choices.{pick-ind}
 use Rattle.numbers.proofs.Columns.{column-length, column-within}
-use Rattle.terms.specs.Quantities.{standing, sizeIn}
 use Rattle.terms.specs.declared.quantity.Standing.{Standing}
-use Rattle.terms.specs.declared.quantity.Standing.the-variants.{NotEnabled}
 use Rattle.terms.specs.declared.quantity.Direction.{Direction}
-use Rattle.quota.specs.Quota.{cutsOf, Sized}
-use Rattle.quota.proofs.Fairness.{cuts-within}
+use Rattle.quota.specs.Quota.{Sized}
 use Rattle.group.specs.Steps.{directionOf, nearerBy, step1Of, step3Of}
 use Rattle.group.specs.Group.{sizeOf, sizesOf, taken, step1All, step2All, step3All}
-use Rattle.group.specs.Asked.{Classed, lossOf}
+use Rattle.group.specs.Asked.{Classed, lossAt}
 use Rattle.group.proofs.Sides.{sizes-length, size-le, size-at, size-abs}
 use Rattle.group.proofs.Bearing.{Bears}
-use Rattle.group.proofs.Cuts.{nearer, lossAt, loss-within}
+use Rattle.group.proofs.Cuts.{nearer, loss-within}
 
 -- one of three, by two tests
 one-of : {b : ℕ} (s t : Bool) {x y z : ℤ} → Within b x → Within b y → Within b z → Within b (pick s x (pick t y z))
@@ -62,10 +56,6 @@ module _ (n stepDown stepUp : List ℤ) where
         column-within 1000000 (λ i. step3Of (at n i) (at stepDown i) (at stepUp i)) (length n)
         (λ i. step3-within 1000000 (at n i) (at stepDown i) (at stepUp i) (small i) (down-small i) (up-small i))
 
-pub loss-small : (d : Direction) (all : Bool) (class : ℕ) (n1 : ℤ) (cut : ℕ) → Within 1000000 n1 → cut ≤ 1000000 → lossOf d all class n1 cut ≤ 1000000
-unfolding lossOf
-loss-small d all class n1 cut w l = pick-ind (all && standing NotEnabled class) (sizeIn d n1) cut (λ x. x ≤ 1000000) (λ _. omega (zarith, size-abs d n1)) (λ _. l)
-
 module _ {n1 : List ℤ} {class : List ℕ} (h : Classed n1 class) where
   pub size-small : (d : Direction) (k : Standing) (i : ℕ) → sizeOf d k (getD class i 0) (at n1 i) ≤ 1000000
   size-small d k i = omega (zarith, size-le d k (getD class i 0) (at n1 i), size-abs d (at n1 i), h .small i)
@@ -76,9 +66,6 @@ module _ {n1 : List ℤ} {class : List ℕ} (h : Classed n1 class) where
         few = omega (arith, sizes-length d k n1 class, h .few);
         small = λ i. omega (arith, size-at d k n1 class i, size-small d k i);
       }
-
-  pub cuts-small : (d : Direction) (k : Standing) (c : ℕ) → c ≤ sum (sizesOf d k n1 class) → (i : ℕ) → getD (cutsOf (sizesOf d k n1 class) c) i 0 ≤ 1000000
-  cuts-small d k c le i = le-trans (cuts-within (sizesOf d k n1 class) c le i) (sizes-sized d k .small i)
 
 module _ (e : ℤ) (n1 : List ℤ) (class : List ℕ) where
   pub step2-length : length (step2All e n1 class) ≡ length n1

@@ -9,26 +9,24 @@ use lib.Dec.{leb}
 use lib.IntN.{ℤ, natAbs}
 use lib.ListN.{length, getD}
 use Rattle.numbers.specs.Choice.{pick}
-use Rattle.numbers.specs.Column.{at}
+use Rattle.numbers.specs.Column.{column, at}
 use Rattle.numbers.specs.Sum.{sum}
 use Rattle.numbers.proofs.Choices.{pick-ind}
-use Rattle.numbers.proofs.Columns.{column-ext}
+use Rattle.numbers.proofs.Columns.{column-ext, column-self}
 use Rattle.terms.specs.Quantities.{standing, sizeIn}
-use Rattle.terms.specs.declared.quantity.Standing.{Standing}
 use Rattle.terms.specs.declared.quantity.Standing.the-variants.{NotEnabled, Enabled}
 use Rattle.terms.specs.declared.quantity.Direction.{Direction}
 use Rattle.quota.specs.Quota.{cutsOf, Asked}
 use Rattle.quota.proofs.Fairness.{length-cuts}
-use Rattle.group.specs.Steps.{directionOf, nearerBy}
-use Rattle.group.specs.Group.{sizesOf, shareOf, cutsFor, taken, step2All}
-use Rattle.group.specs.Asked.{Classed, SharedOut, lossOf, left, Lost}
+use Rattle.group.specs.Steps.{directionOf}
+use Rattle.group.specs.Group.{sizesOf, shareOf, cutsFor}
+use Rattle.group.specs.Asked.{Bearable, SharedOut, lossOf, lossAt, lossesOf}
 use Rattle.group.proofs.Sides.{sizes-length, size-of, size-not}
-use Rattle.group.proofs.Bearing.{Bears}
-use Rattle.group.proofs.Cuts.{lossAt, all-cut, cut-within, loss-of}
-use Rattle.group.proofs.Ranges.{sizes-sized, cuts-small}
+use Rattle.group.proofs.Cuts.{all-cut, cut-within, loss-of}
+use Rattle.group.proofs.Ranges.{sizes-sized}
 use Rattle.group.proofs.Uncut.{none-at}
 
-module _ (e : ℤ) (n1 : List ℤ) (class : List ℕ) (bears : Bears e n1 class) (classed : Classed n1 class) where
+module _ {e : ℤ} {n1 : List ℤ} {class : List ℕ} (h : Bearable e n1 class) where
   -- the sizes of those that bear a part, and the total of those not enabled
   abbrev bearers : Bool → List ℕ
   bearers all = sizesOf (directionOf e) (pick all Enabled NotEnabled) n1 class
@@ -37,7 +35,7 @@ module _ (e : ℤ) (n1 : List ℤ) (class : List ℕ) (bears : Bears e n1 class)
   first = sum (sizesOf (directionOf e) NotEnabled n1 class)
 
   part-borne : (all : Bool) → all ≡ leb first (natAbs e) → natAbs e - pick all first 0 ≤ sum (bearers all)
-  part-borne true w = omega arith
+  part-borne true w = omega (arith, h .borne)
   part-borne false w = omega (arith, leb-false first (natAbs e) (sym w))
 
   loss-is : (all : Bool) → all ≡ leb first (natAbs e) → (i : ℕ)
@@ -48,10 +46,10 @@ module _ (e : ℤ) (n1 : List ℤ) (class : List ℕ) (bears : Bears e n1 class)
       let d : Direction = directionOf e in
       let cut : ℕ = getD (cutsOf (bearers true) (natAbs e - first)) i 0 in
       pick-ind (standing NotEnabled (getD class i 0)) (sizeIn d (at n1 i)) cut (λ c. c ≡ lossAt e n1 class i)
-      (λ h. sym (loss-of e n1 class bears classed NotEnabled i h ∙ all-cut e n1 class bears NotEnabled i m ∙ size-of d NotEnabled (getD class i 0) (at n1 i) h))
-      (λ h.
-      let q : cut ≡ getD (cutsFor e Enabled n1 class) i 0 = ap (λ (c : ℕ). getD (cutsOf (bearers true) (natAbs e - c)) i 0) (sym m) in
-      omega (arith, q, cut-within e n1 class bears NotEnabled i, size-not d NotEnabled (getD class i 0) (at n1 i) h))
+      (λ q. sym (loss-of e n1 class (h .borne) (h .classed) NotEnabled i q ∙ all-cut e n1 class (h .borne) NotEnabled i m ∙ size-of d NotEnabled (getD class i 0) (at n1 i) q))
+      (λ q.
+      let p : cut ≡ getD (cutsFor e Enabled n1 class) i 0 = ap (λ (c : ℕ). getD (cutsOf (bearers true) (natAbs e - c)) i 0) (sym m) in
+      omega (arith, p, cut-within e n1 class (h .borne) NotEnabled i, size-not d NotEnabled (getD class i 0) (at n1 i) q))
   loss-is false w i =
       let l = leb-false first (natAbs e) (sym w) in
       let m : natAbs e - 0 ≡ min (natAbs e) first = omega arith in
@@ -59,6 +57,14 @@ module _ (e : ℤ) (n1 : List ℤ) (class : List ℕ) (bears : Bears e n1 class)
       let p : getD (cutsOf (bearers false) (natAbs e - 0)) i 0 ≡ getD (cutsFor e NotEnabled n1 class) i 0 = ap (λ (c : ℕ). getD (cutsOf (bearers false) c) i 0) m in
       let q : getD (cutsFor e Enabled n1 class) i 0 ≡ 0 = ap (λ (c : ℕ). getD (cutsOf (bearers true) c) i 0) k ∙ none-at (bearers true) i in
       omega (arith, p, q)
+
+  -- so much is lost by the cuts, and all of those not enabled where they lose all
+  abbrev lost : Direction → Bool → List ℕ → List ℕ
+  lost d all cuts = column (length n1) (λ i. lossOf d all (getD class i 0) (at n1 i) (getD cuts i 0))
+
+  losses-are : (all : Bool) → all ≡ leb first (natAbs e) → lost (directionOf e) all (cutsOf (bearers all) (natAbs e - pick all first 0)) ≡ lossesOf e n1 class
+  unfolding lossesOf
+  losses-are all w = column-ext _ _ (length n1) (λ i _. loss-is all w i)
 
   module _ {d : Direction} {c t part : ℕ} {all : Bool} {sizes : List ℕ} (de : d ≡ directionOf e) (ce : c ≡ natAbs e) (s : SharedOut d c n1 class all t part sizes) where
     whole-is : all ≡ leb first (natAbs e)
@@ -70,33 +76,30 @@ module _ (e : ℤ) (n1 : List ℤ) (class : List ℕ) (bears : Bears e n1 class)
     part-is : part ≡ natAbs e - pick all first 0
     part-is = rw (← de, ← ce) (s .rest)
 
-    pub through-asked : {cuts : List ℕ} → length cuts ≡ length n1 → Asked sizes t part cuts
-    through-asked l =
+    pub through-asked : Asked sizes t part
+    through-asked =
         rw (s .total, sizes-are, part-is)
         (record {
-          sized = sizes-sized classed (directionOf e) (pick all Enabled NotEnabled);
+          sized = sizes-sized (h .classed) (directionOf e) (pick all Enabled NotEnabled);
           total = refl;
           within = part-borne all whole-is;
-          places = l ∙ sym (sizes-length (directionOf e) (pick all Enabled NotEnabled) n1 class);
         })
 
     module _ {cuts : List ℕ} (cut : cuts ≡ cutsOf sizes part) where
       cuts-are : cuts ≡ cutsOf (bearers all) (natAbs e - pick all first 0)
       cuts-are = cut ∙ rw (sizes-are, part-is)
 
-      pub through-lost : {n2 : List ℤ} → length n2 ≡ length n1 → Lost n1 class cuts n2
-      through-lost l =
-          let k : Standing = pick all Enabled NotEnabled in
-          let p : ℕ = natAbs e - pick all first 0 in
-          record {
-            classed = classed;
-            cuts-places = ap length cuts-are ∙ length-cuts (bearers all) p ∙ sizes-length (directionOf e) k n1 class;
-            cuts-small = λ i. rw cuts-are (cuts-small classed (directionOf e) k p (part-borne all whole-is) i);
-            places = l;
-          }
+      pub through-places : length cuts ≡ length n1
+      through-places =
+          ap length cuts-are ∙ length-cuts (bearers all) (natAbs e - pick all first 0) ∙ sizes-length (directionOf e) (pick all Enabled NotEnabled) n1 class
 
-      pub through-step2 : left d all n1 class cuts ≡ step2All e n1 class
-      unfolding left step2All taken
-      through-step2 =
-          rw (de, cuts-are)
-          (column-ext _ _ (length n1) (λ i _. ap (nearerBy (directionOf e) (at n1 i)) (loss-is all whole-is i)))
+      lost-is : lost d all cuts ≡ lossesOf e n1 class
+      lost-is = rw (de, cuts-are) (losses-are all whole-is)
+
+      pub through-all : all ≡ true → lost d true cuts ≡ lossesOf e n1 class
+      through-all q = rw q at lost-is
+
+      -- where they do not, the cuts are all that is lost
+      pub through-part : all ≡ false → cuts ≡ lossesOf e n1 class
+      unfolding lossOf
+      through-part q = column-self 0 cuts ∙ rw through-places (rw q at lost-is)

@@ -14,7 +14,7 @@ use Rattle.terms.specs.Quantities.{standing, sizeIn}
 use Rattle.terms.specs.declared.quantity.Direction.{Direction}
 use Rattle.terms.specs.declared.quantity.Standing.the-variants.{NotEnabled, Enabled}
 use Rattle.group.specs.Steps.{nearerBy, directionOf, excessOf, bandOf}
-use Rattle.group.specs.Group.{Group, units, sizesOf, step1All, step2All, step3All}
+use Rattle.group.specs.Group.{Group, units, sizesOf, cutsFor, step1All, step2All, step3All}
 use Rattle.group.specs.Columns.{sumsBy}
 use Rattle.group.specs.declared.judge.Sums.{Sums}
 
@@ -53,21 +53,27 @@ pub record SharedOut (d : Direction) (c : ℕ) (n1 : List ℤ) (class : List ℕ
 unfoldable pub lossOf : Direction → Bool → ℕ → ℤ → ℕ → ℕ
 lossOf d all class n1 cut = pick (all && standing NotEnabled class) (sizeIn d n1) cut
 
--- what is left of every unit
-unfoldable pub left : Direction → Bool → List ℤ → List ℕ → List ℕ → List ℤ
-left d all n1 class cuts = column (length n1) λ i. nearerBy d (at n1 i) (lossOf d all (getD class i 0) (at n1 i) (getD cuts i 0))
+-- what unit i loses for an excess e, of the one standing or the other; and what every unit does
+abbrev pub lossAt : ℤ → List ℤ → List ℕ → ℕ → ℕ
+lossAt e n1 class i = getD (cutsFor e NotEnabled n1 class) i 0 + getD (cutsFor e Enabled n1 class) i 0
 
--- an excess that the units of its direction can bear, with a place for each unit
-pub record Bearable (e : ℤ) (n1 : List ℤ) (class : List ℕ) (n2 : List ℤ) : Type 0 where
+unfoldable pub lossesOf : ℤ → List ℤ → List ℕ → List ℕ
+lossesOf e n1 class = column (length n1) (lossAt e n1 class)
+
+-- what is left of every unit
+unfoldable pub left : Direction → List ℤ → List ℕ → List ℤ
+left d n1 losses = column (length n1) λ i. nearerBy d (at n1 i) (getD losses i 0)
+
+-- an excess that the units of its direction can bear
+pub record Bearable (e : ℤ) (n1 : List ℤ) (class : List ℕ) : Type 0 where
   pub classed : Classed n1 class
   pub borne : natAbs e ≤ sum (sizesOf (directionOf e) NotEnabled n1 class) + sum (sizesOf (directionOf e) Enabled n1 class)
-  pub places : length n2 ≡ length n1
 
--- a class and a cut for each quantity
-pub record Lost (n1 : List ℤ) (class cuts : List ℕ) (n2 : List ℤ) : Type 0 where
-  pub classed : Classed n1 class
-  pub cuts-places : length cuts ≡ length n1
-  pub cuts-small : (i : ℕ) → getD cuts i 0 ≤ 1000000
+-- a loss for each quantity, and a place for what is left of it
+pub record Lost (n1 : List ℤ) (losses : List ℕ) (n2 : List ℤ) : Type 0 where
+  pub small : AllWithin 1000000 n1
+  pub losses-places : length losses ≡ length n1
+  pub losses-small : (i : ℕ) → getD losses i 0 ≤ 1000000
   pub places : length n2 ≡ length n1
 
 -- a group of position p that was not refused, with three columns to write

@@ -57,11 +57,18 @@ cutVerdict e = pick (ltZ (pos 0) e) 1 (pick (ltZ e (pos 0)) 2 0)
 unfoldable pub verdictOf : Band → ℤ → ℤ → ℕ
 verdictOf b e s3 = cutVerdict e + pick (isOutside b s3) 4 0
 
+-- a unit at zero lies outside its margins
+abbrev pub zeroOutside : ℤ → ℤ → ℤ → Bool
+zeroOutside n3 stepDown stepUp = eqZ n3 (pos 0) && (ltZ (pos 0) stepDown || ltZ stepUp (pos 0))
+
 -- a unit's reason, a sum: 1 implicit nomination taken, 2 n1 ≠ n0, 4 n2 ≠ n1, 8 n3 ≠ n2, 16 n3 = 0 lies outside the margins
-unfoldable pub reasonOf : Bool → ℤ → ℤ → ℤ → ℤ → ℤ → ℤ → ℕ
-reasonOf taken n0 n1 n2 n3 stepDown stepUp =
+unfoldable pub reasonBy : Bool → ℤ → ℤ → ℤ → ℤ → Bool → ℕ
+reasonBy taken n0 n1 n2 n3 outside =
     pick taken 1 0
     + pick (not (eqZ n1 n0)) 2 0
     + pick (not (eqZ n2 n1)) 4 0
     + pick (not (eqZ n3 n2)) 8 0
-    + pick (eqZ n3 (pos 0) && (ltZ (pos 0) stepDown || ltZ stepUp (pos 0))) 16 0
+    + pick outside 16 0
+
+abbrev pub reasonOf : Bool → ℤ → ℤ → ℤ → ℤ → ℤ → ℤ → ℕ
+reasonOf taken n0 n1 n2 n3 stepDown stepUp = reasonBy taken n0 n1 n2 n3 (zeroOutside n3 stepDown stepUp)

@@ -1,9 +1,12 @@
 // Step 2: the excess is cut pro quota, from the units that are not enabled first.
 ghost use mathlib.Core.Path.{_≡_};
-ghost use lib.ListN.{length};
+ghost use mathlib.Core.Bool.{true};
+ghost use Prim.Native.Nat.{ℕ};
+ghost use lib.ListN.{length, getD};
+ghost use Rattle.numbers.specs.Column.{column, at};
 ghost use Rattle.numbers.specs.Sum.{sum};
 ghost use Rattle.group.specs.Group.{sizeOf, sizesOf, step2All};
-ghost use Rattle.group.specs.Asked.{lossOf, left, Classed, SharedOut, Lost, Bearable};
+ghost use Rattle.group.specs.Asked.{lossOf, lossesOf, left, Classed, SharedOut, Lost, Bearable};
 use crate::band::direction;
 use crate::unit::nearer;
 use numbers::signed::magnitude;
@@ -60,73 +63,65 @@ fn share_out(d: Direction, c: u32, n1: &[i32], class: &[u8], sizes: &mut [u32]) 
     }
 }
 
-// What a unit loses: its cut, or all where it is not enabled and those lose all.
-fn loss(d: Direction, all: bool, class: u8, n1: i32, cut: u32) -> u32
-    ensures { λ r. ⌜ r ≡ lossOf d all class n1 cut ⌝ }
+// What a unit loses where those not enabled lose all: all of it, or its cut where it is enabled.
+fn loss(d: Direction, class: u8, n1: i32, cut: u32) -> u32
+    ensures { λ r. ⌜ r ≡ lossOf d true class n1 cut ⌝ }
 {
     let k = Standing::NotEnabled;
-    if all {
-        if k.holds(class) {
-            return d.size(n1);
-        }
+    if k.holds(class) {
+        return d.size(n1);
     }
     cut
 }
 
-// Each unit is brought nearer to zero by what it loses.
-fn take_off(d: Direction, all: bool, n1: &[i32], class: &[u8], cuts: &[u32], n2: &mut [i32])
-    requires { ⌜ Lost (now n1) (now class) (now cuts) (now n2) ⌝ }
-    ensures { λ _. ⌜ now (n2 .exit) ≡ left d all (now (n1 .entry)) (now (class .entry)) (now (cuts .entry)) ⌝ }
+// The units not enabled lose all, beside the cuts of the enabled.
+fn lose_all(d: Direction, n1: &[i32], class: &[u8], losses: &mut [u32])
+    requires { ⌜ Classed (now n1) (now class) × (length (now losses) ≡ length (now n1)) ⌝ }
+    ensures { λ _. ⌜ now (losses .exit) ≡ column (length (now (n1 .entry))) (λ (i : ℕ). lossOf d true (getD (now (class .entry)) i 0) (at (now (n1 .entry)) i) (getD (now (losses .entry)) i 0)) ⌝ }
 {
     let mut i = 0;
     while i < n1.len() {
-        n2[i] = nearer(d, n1[i], loss(d, all, class[i], n1[i], cuts[i]));
+        losses[i] = loss(d, class[i], n1[i], losses[i]);
         i += 1;
     }
 }
 
-// Step 2, by way of two lent columns.
-fn cut_through(
-    e: i32,
-    n1: &[i32],
-    class: &[u8],
-    n2: &mut [i32],
-    sizes: &mut [u32],
-    cuts: &mut [u32],
-)
-    requires { ⌜ Bearable e (now n1) (now class) (now n2) ⌝ }
-    requires { ⌜ (length (now sizes) ≡ length (now n1)) × (length (now cuts) ≡ length (now n1)) ⌝ }
-    ensures { λ _. ⌜ now (n2 .exit) ≡ step2All e (now (n1 .entry)) (now (class .entry)) ⌝ }
+// What each unit loses for the excess e of S1, in a lent column of zeros.
+pub fn losses_into(e: i32, n1: &[i32], class: &[u8], losses: &mut [u32])
+    requires { ⌜ Bearable e (now n1) (now class) ⌝ }
+    requires { ⌜ now losses ≡ column (length (now n1)) (λ (i : ℕ). 0) ⌝ }
+    ensures { λ _. ⌜ now (losses .exit) ≡ lossesOf e (now (n1 .entry)) (now (class .entry)) ⌝ }
 {
+    if e == 0 {
+        return;
+    }
     let d = direction(e);
-    let shared = share_out(d, magnitude(e), n1, class, sizes);
-    quota::cut(sizes, shared.t, shared.c, cuts);
-    take_off(d, shared.all, n1, class, cuts, n2);
+    let shared = share_out(d, magnitude(e), n1, class, losses);
+    quota::cut(losses, shared.t, shared.c);
+    if shared.all {
+        lose_all(d, n1, class, losses);
+    }
 }
 
-// S1 lies in the band, so step 2 leaves every unit as it was.
-fn keep(n1: &[i32], n2: &mut [i32])
-    requires { ⌜ length (now n2) ≡ length (now n1) ⌝ }
-    ensures { λ _. ⌜ now (n2 .exit) ≡ now (n1 .entry) ⌝ }
+// Each unit is brought nearer to zero by what it loses.
+fn take_off(d: Direction, n1: &[i32], losses: &[u32], n2: &mut [i32])
+    requires { ⌜ Lost (now n1) (now losses) (now n2) ⌝ }
+    ensures { λ _. ⌜ now (n2 .exit) ≡ left d (now (n1 .entry)) (now (losses .entry)) ⌝ }
 {
     let mut i = 0;
     while i < n1.len() {
-        n2[i] = n1[i];
+        n2[i] = nearer(d, n1[i], losses[i]);
         i += 1;
     }
 }
 
 // Step 2 of every unit, for the excess e of S1.
 pub fn step2_all(e: i32, n1: &[i32], class: &[u8], n2: &mut [i32])
-    requires { ⌜ Bearable e (now n1) (now class) (now n2) ⌝ }
+    requires { ⌜ Bearable e (now n1) (now class) × (length (now n2) ≡ length (now n1)) ⌝ }
     ensures { λ _. ⌜ now (n2 .exit) ≡ step2All e (now (n1 .entry)) (now (class .entry)) ⌝ }
 {
-    if e == 0 {
-        keep(n1, n2);
-        return;
-    }
     let n = n1.len();
-    let mut sizes = [0u32; 64];
-    let mut cuts = [0u32; 64];
-    cut_through(e, n1, class, n2, &mut sizes[..n], &mut cuts[..n]);
+    let mut losses = [0u32; 64];
+    losses_into(e, n1, class, &mut losses[..n]);
+    take_off(direction(e), n1, &losses[..n], n2);
 }

@@ -77,7 +77,7 @@ fn step3_all(n2: &[i32], step_down: &[i32], step_up: &[i32], n3: &mut [i32]) -> 
 }
 
 // Verdict and balance, beside the sums.
-fn summed(p: Position, b: Band, s1: i32, e: i32, s2: i32, s3: i32) -> Sums
+pub fn summed(p: Position, b: Band, s1: i32, e: i32, s2: i32, s3: i32) -> Sums
     requires { ⌜ Within 64000000 (p .0) × Within 64000000 s3 ⌝ }
     ensures { λ r. ⌜ r ≡ sumsBy (p .0) b s1 e s2 s3 ⌝ }
 {
@@ -92,7 +92,7 @@ fn summed(p: Position, b: Band, s1: i32, e: i32, s2: i32, s3: i32) -> Sums
 }
 
 // The three steps of a group of position p that is not refused.
-pub fn judged(
+fn judged(
     p: Position,
     n0: &[i32],
     step_down: &[i32],

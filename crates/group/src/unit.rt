@@ -1,12 +1,10 @@
 // The steps of one unit.
 ghost use mathlib.Core.Path.{_≡_};
 ghost use Prim.Native.Nat.{_≤_};
-ghost use mathlib.Core.Bool.{not, _&&_, _||_};
-ghost use lib.IntN.{pos};
-ghost use lib.Signed.{ltZ};
+ghost use mathlib.Core.Bool.{not};
 ghost use Rattle.numbers.specs.Choice.{pick, eqZ};
 ghost use Rattle.numbers.specs.Range.{Within};
-ghost use Rattle.group.specs.Steps.{step1Of, nearerBy, step3Of, reasonOf};
+ghost use Rattle.group.specs.Steps.{step1Of, nearerBy, step3Of, zeroOutside, reasonBy};
 use terms::quantity::Direction;
 
 // Step 1.
@@ -74,8 +72,8 @@ fn differ(a: i32, b: i32) -> bool
 }
 
 // Whether a unit at zero lies outside its margins.
-fn zero_outside(n3: i32, step_down: i32, step_up: i32) -> bool
-    ensures { λ r. ⌜ r ≡ (eqZ n3 (pos 0) && (ltZ (pos 0) «step_down» || ltZ «step_up» (pos 0))) ⌝ }
+pub fn zero_outside(n3: i32, step_down: i32, step_up: i32) -> bool
+    ensures { λ r. ⌜ r ≡ zeroOutside n3 «step_down» «step_up» ⌝ }
 {
     if n3 != 0 {
         return false;
@@ -86,11 +84,11 @@ fn zero_outside(n3: i32, step_down: i32, step_up: i32) -> bool
     step_up < 0
 }
 
-// A unit's reason.
-pub fn reason(taken: bool, n0: i32, n1: i32, n2: i32, n3: i32, step_down: i32, step_up: i32) -> u8
-    ensures { λ r. ⌜ r ≡ reasonOf taken n0 n1 n2 n3 «step_down» «step_up» ⌝ }
+// A unit's reason; the caller says whether it is at zero outside its margins.
+pub fn reason(taken: bool, n0: i32, n1: i32, n2: i32, n3: i32, outside: bool) -> u8
+    ensures { λ r. ⌜ r ≡ reasonBy taken n0 n1 n2 n3 outside ⌝ }
 {
     let first = weight(taken, 1) + weight(differ(n1, n0), 2);
     let second = weight(differ(n2, n1), 4) + weight(differ(n3, n2), 8);
-    first + second + weight(zero_outside(n3, step_down, step_up), 16)
+    first + second + weight(outside, 16)
 }

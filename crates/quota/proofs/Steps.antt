@@ -1,22 +1,22 @@
 -- What the two loops of the cut have done after some turns, and that a turn more does more of it: by what a store leaves at each place.
 use Prim.Native.Nat.{ℕ, _+_, _-_, _*_, _/_, _%_, _≤_, _<_}
 use mathlib.Core.Path.{_≡_, sym, _∙_, ap, ap₂}
-use mathlib.Core.Bool.{Bool}
+use mathlib.Core.Bool.{Bool, false}
 use mathlib.Core.List.{List, _++_}
 use native.Mathlib.Omega.{arith}
 use native.Mathlib.Nat.{div-zero, zero-mul, zero-mod, mod-lt, le-refl, mul-le-mul-right, le-of-mul-le-mul-right}
-use native.Mathlib.Decide.{decLt}
+use native.Mathlib.Decide.{decLt, ℕ-discrete}
 use lib.Dec.{ltb}
 use lib.ListN.{length, getD, set, take, drop, length-set, length-append}
-use lib.Seq.{take-at, getD-set-other}
-use borrow.Author.Tests.{lt-ltb, le-ltb}
+use lib.Seq.{take-at, getD-set-same, getD-set-other}
+use borrow.Author.Tests.{le-ltb, eq-eqb, ne-eqb}
 use Rattle.numbers.specs.Column.{column}
-use Rattle.numbers.specs.Sum.{sum, sumTo, bit}
+use Rattle.numbers.specs.Sum.{sum, sumTo, bit, count}
 use Rattle.numbers.proofs.Columns.{column-length, column-at, column-past, is-column, column-ext, set-more}
-use Rattle.numbers.proofs.Sums.{sumTo-one, sumTo-mono, sumTo-none, sum-bound}
+use Rattle.numbers.proofs.Sums.{count-one, sumTo-one, sumTo-mono, sumTo-none, sum-bound}
 use Rattle.quota.specs.Quota.{whole, rest, before, rank, still, cutAt, cutsOf, Asked}
-use Rattle.quota.specs.Keys.{keyOf, key, keysOf, rankedOf, above, dealt}
-use Rattle.quota.proofs.Ranks.{ranked-same, ranked-more, ranked-fits, dealt-is}
+use Rattle.quota.specs.Keys.{keyOf, key, unitOf, rankedOf, above, deals, dealt}
+use Rattle.quota.proofs.Ranks.{key-unit, ranked-same, ranked-more, ranked-fits, ranked-each, dealt-is}
 use Rattle.quota.proofs.Shares.{share, wholes-le}
 
 -- the whole parts, T of 0 or not
@@ -40,7 +40,7 @@ module _ (s : List ℕ) (c : ℕ) (le : c ≤ sum s) where
       go (no h) = omega (arith, sumTo-none (length s) (whole s c) (whole-none (omega arith)))
 
 -- no total is above 64,000,000, and so no remainder, T of 0 or not
-pub total-small : {s d : List ℕ} {t c : ℕ} → Asked s t c d → t ≤ 64000000
+pub total-small : {s : List ℕ} {t c : ℕ} → Asked s t c → t ≤ 64000000
 total-small {s} a = omega (arith, a .total, a .sized .few, sum-bound s 1000000 (a .sized .small))
 
 pub rest-small : (c n t r : ℕ) → c ≤ t → t ≤ 64000000 → r ≡ c * n % t → r ≤ 64000000
@@ -52,31 +52,28 @@ rest-small c n t r l m e = go (decLt 0 t)
         let z : c ≡ 0 = omega arith in
         omega (arith, e ∙ ap (λ (x : ℕ). x * n % t) z ∙ ap (λ (x : ℕ). x % t) (zero-mul n) ∙ zero-mod t)
 
--- after i turns of the first loop: the whole parts of i units, their keys before the sizes of the others, those with a remainder again, and what is left of C
-pub record Wholes (s : List ℕ) (c : ℕ) (ranked₀ cuts keys ranked : List ℕ) (left units i : ℕ) : Type 0 where
+-- after i turns of the first loop: the whole parts of i units before the sizes of the others, the keys of those with a remainder, and what is left of C
+pub record Wholes (s : List ℕ) (c : ℕ) (ranked₀ sizes ranked : List ℕ) (left units i : ℕ) : Type 0 where
   pub upto : i ≤ length s
-  pub places : length cuts ≡ length s
-  pub kept : length keys ≡ length s
+  pub places : length sizes ≡ length s
   pub again : length ranked ≡ length s
   pub fewer : units ≤ i
-  pub wholes : (j : ℕ) → j < i → getD cuts j 0 ≡ whole s c j
-  pub done : (j : ℕ) → j < i → getD keys j 0 ≡ key s c j
-  pub todo : (j : ℕ) → i ≤ j → getD keys j 0 ≡ getD s j 0
+  pub done : (j : ℕ) → j < i → getD sizes j 0 ≡ whole s c j
+  pub todo : (j : ℕ) → i ≤ j → getD sizes j 0 ≡ getD s j 0
   pub units-are : units ≡ length (rankedOf (key s c) i)
   pub ranked-are : ranked ≡ rankedOf (key s c) i ++ drop units ranked₀
   pub still-left : left + sumTo i (whole s c) ≡ c
 
 -- and after all of them
-abbrev pub WholesDone : List ℕ → ℕ → List ℕ → List ℕ → List ℕ → List ℕ → ℕ → ℕ → Type 0
-WholesDone s c ranked₀ cuts keys ranked left units =
+abbrev pub WholesDone : List ℕ → ℕ → List ℕ → List ℕ → List ℕ → ℕ → ℕ → Type 0
+WholesDone s c ranked₀ sizes ranked left units =
     (left ≡ still s c)
     × (units ≡ length (rankedOf (key s c) (length s)))
-    × (cuts ≡ column (length s) (whole s c))
-    × (keys ≡ keysOf s c)
+    × (sizes ≡ column (length s) (whole s c))
     × (ranked ≡ rankedOf (key s c) (length s) ++ drop units ranked₀)
 
-module _ {s d ranked₀ cuts keys ranked : List ℕ} {t c left units i : ℕ} (a : Asked s t c d) (h : Wholes s c ranked₀ cuts keys ranked left units i) where
-  module _ (w r : ℕ) (l : i < length keys) (w-is : w ≡ c * getD keys i 0 / t) (r-is : r ≡ c * getD keys i 0 % t) where
+module _ {s ranked₀ sizes ranked : List ℕ} {t c left units i : ℕ} (a : Asked s t c) (h : Wholes s c ranked₀ sizes ranked left units i) where
+  module _ (w r : ℕ) (l : i < length sizes) (w-is : w ≡ c * getD sizes i 0 / t) (r-is : r ≡ c * getD sizes i 0 % t) where
     w-whole : w ≡ whole s c i
     unfolding whole
     w-whole = w-is ∙ ap₂ (λ (n x : ℕ). c * n / x) (h .todo i (le-refl i)) (a .total)
@@ -94,116 +91,113 @@ module _ {s d ranked₀ cuts keys ranked : List ℕ} {t c left units i : ℕ} (a
     -- one unit more, whatever becomes of the keys that are ranked
     turn : {ranked₁ : List ℕ} {units₁ : ℕ} → length ranked₁ ≡ length s → units₁ ≡ length (rankedOf (key s c) (i + 1)) →
         ranked₁ ≡ rankedOf (key s c) (i + 1) ++ drop units₁ ranked₀ →
-        Wholes s c ranked₀ (set cuts i w) (set keys i (keyOf r i)) ranked₁ (left - w) units₁ (i + 1)
+        Wholes s c ranked₀ (set sizes i w) ranked₁ (left - w) units₁ (i + 1)
     turn again units-are ranked-are =
-        let x : ℕ = keyOf r i in
         record {
           upto = omega arith;
-          places = length-set cuts i w ∙ h .places;
-          kept = length-set keys i x ∙ h .kept;
+          places = length-set sizes i w ∙ h .places;
           again = again;
           fewer = omega (arith, units-are, ranked-fits (key s c) (i + 1));
-          wholes = set-more (whole s c) 0 cuts i w (omega arith) w-whole (h .wholes);
-          done = set-more (key s c) 0 keys i x (omega arith) r-key (h .done);
-          todo = λ j m. getD-set-other keys i j x 0 (omega arith) ∙ h .todo j (omega arith);
+          done = set-more (whole s c) 0 sizes i w (omega arith) w-whole (h .done);
+          todo = λ j m. getD-set-other sizes i j w 0 (omega arith) ∙ h .todo j (omega arith);
           units-are = units-are;
           ranked-are = ranked-are;
           still-left = omega (arith, whole-left, w-whole, sumTo-one i (whole s c));
         }
 
     -- the key of a unit without a remainder is not ranked
-    pub wholes-plain : r ≡ 0 → Wholes s c ranked₀ (set cuts i w) (set keys i (keyOf r i)) ranked (left - w) units (i + 1)
+    pub wholes-plain : r ≡ 0 → Wholes s c ranked₀ (set sizes i w) ranked (left - w) units (i + 1)
     wholes-plain z =
         let same : rankedOf (key s c) (i + 1) ≡ rankedOf (key s c) i = ranked-same (key s c) i (omega (arith, r-key)) in
         turn (h .again) (h .units-are ∙ ap length (sym same)) (h .ranked-are ∙ ap (λ (k : List ℕ). k ++ drop units ranked₀) (sym same))
 
     pub wholes-more : 0 < r → length ranked₀ ≡ length s →
-        Wholes s c ranked₀ (set cuts i w) (set keys i (keyOf r i)) (set ranked units (keyOf r i)) (left - w) (units + 1) (i + 1)
+        Wholes s c ranked₀ (set sizes i w) (set ranked units (keyOf r i)) (left - w) (units + 1) (i + 1)
     wholes-more pos len =
         let more = ranked-more (key s c) i ranked₀ units (h .units-are) (omega arith) (omega (arith, r-key)) in
         turn (length-set ranked units (keyOf r i) ∙ h .again) (more .0)
         (ap₂ (λ (k : List ℕ) (y : ℕ). set k units y) (h .ranked-are) r-key ∙ more .1)
 
-  pub wholes-end : length keys ≤ i → WholesDone s c ranked₀ cuts keys ranked left units
-  unfolding still keysOf
+  pub wholes-end : length sizes ≤ i → WholesDone s c ranked₀ sizes ranked left units
+  unfolding still
   wholes-end full =
       let e : i ≡ length s = omega arith in (
         omega (arith, ap (λ (n : ℕ). sumTo n (whole s c)) e),
         h .units-are ∙ ap (λ (n : ℕ). length (rankedOf (key s c) n)) e,
-        is-column (whole s c) 0 (length s) cuts (h .places) (λ j m. h .wholes j (omega arith)),
-        is-column (key s c) 0 (length s) keys (h .kept) (λ j m. h .done j (omega arith)),
+        is-column (whole s c) 0 (length s) sizes (h .places) (λ j m. h .done j (omega arith)),
         h .ranked-are ∙ ap (λ (n : ℕ). rankedOf (key s c) n ++ drop units ranked₀) e,
       )
 
--- after k turns of the second loop: what k units were dealt, and the cuts of the others as they were
-pub record Deals (ranked keys : List ℕ) (left : ℕ) (cuts₀ cuts : List ℕ) (k : ℕ) : Type 0 where
-  pub upto : k ≤ length cuts₀
+-- after j turns of the second loop: what the first j keys deal each unit
+pub record Deals (ranked : List ℕ) (left : ℕ) (cuts₀ cuts : List ℕ) (j : ℕ) : Type 0 where
+  pub upto : j ≤ length ranked
   pub places : length cuts ≡ length cuts₀
-  pub done : (j : ℕ) → j < k → getD cuts j 0 ≡ getD cuts₀ j 0 + dealt ranked left (getD keys j 0)
-  pub todo : (j : ℕ) → k ≤ j → getD cuts j 0 ≡ getD cuts₀ j 0
+  pub done : (k : ℕ) → getD cuts k 0 ≡ getD cuts₀ k 0 + count j (λ (i : ℕ). deals ranked left k (getD ranked i 0))
 
-module _ {ranked keys cuts₀ cuts : List ℕ} {left k : ℕ} (h : Deals ranked keys left cuts₀ cuts k) where
-  module _ (l : k < length cuts₀) where
-    -- a unit without a remainder is dealt nothing
-    pub deals-plain : getD keys k 0 < 64 → Deals ranked keys left cuts₀ cuts (k + 1)
-    unfolding dealt
-    deals-plain low =
-        record {
-          upto = omega arith;
-          places = h .places;
-          done = λ j m. go j (decLt j k) m;
-          todo = λ j m. h .todo j (omega arith);
-        }
-      where
-        go : (j : ℕ) → Dec (j < k) → j < k + 1 → getD cuts j 0 ≡ getD cuts₀ j 0 + dealt ranked left (getD keys j 0)
-        go j (yes m) _ = h .done j m
-        go j (no m) n =
-            let e : j ≡ k = omega arith in
-            rw e (rw (le-ltb 63 (getD keys k 0) (omega arith)) (omega (arith, h .todo k (le-refl k))))
+module _ {ranked cuts₀ cuts : List ℕ} {left j : ℕ} (h : Deals ranked left cuts₀ cuts j) where
+  pub deals-more : {b : Bool} (u : ℕ) → u ≡ unitOf (getD ranked j 0) → j < length ranked → u < length cuts₀ →
+      b ≡ ltb (above ranked (getD ranked j 0)) left → Deals ranked left cuts₀ (set cuts u (getD cuts u 0 + bit b)) (j + 1)
+  unfolding deals
+  deals-more {b} u u-is l inside e = record { upto = omega arith; places = length-set cuts u v ∙ h .places; done = λ k. go k (ℕ-discrete u k) }
+    where
+      v : ℕ
+      v = getD cuts u 0 + bit b
 
-    pub deals-more : {b : Bool} → 64 ≤ getD keys k 0 → b ≡ ltb (above ranked (getD keys k 0)) left →
-        Deals ranked keys left cuts₀ (set cuts k (getD cuts k 0 + bit b)) (k + 1)
-    unfolding dealt
-    deals-more {b} high e =
-        let v : ℕ = getD cuts k 0 + bit b in
-        record {
-          upto = omega arith;
-          places = length-set cuts k v ∙ h .places;
-          done =
-              set-more (λ (j : ℕ). getD cuts₀ j 0 + dealt ranked left (getD keys j 0)) 0 cuts k v (omega arith)
-              (rw (lt-ltb 63 (getD keys k 0) (omega arith)) (ap₂ (λ (x : ℕ) (p : Bool). x + bit p) (h .todo k (le-refl k)) e)) (h .done);
-          todo = λ j m. getD-set-other cuts k j v 0 (omega arith) ∙ h .todo j (omega arith);
-        }
+      by : ℕ → ℕ → Bool
+      by k i = deals ranked left k (getD ranked i 0)
 
-  pub deals-end : length cuts₀ ≤ k → cuts ≡ column (length cuts₀) (λ (j : ℕ). getD cuts₀ j 0 + dealt ranked left (getD keys j 0))
-  deals-end l = is-column (λ (j : ℕ). getD cuts₀ j 0 + dealt ranked left (getD keys j 0)) 0 (length cuts₀) cuts (h .places) (λ j m. h .done j (omega arith))
+      go : (k : ℕ) → Dec (u ≡ k) → getD (set cuts u v) k 0 ≡ getD cuts₀ k 0 + count (j + 1) (by k)
+      go k (yes m) =
+          let test : by k j ≡ b = rw (eq-eqb (unitOf (getD ranked j 0)) k (sym u-is ∙ m)) (sym e) in
+          omega (
+            arith,
+            ap (λ (x : ℕ). getD (set cuts u v) x 0) (sym m) ∙ getD-set-same cuts u v 0 (omega arith),
+            ap (λ (x : ℕ). getD cuts x 0) m,
+            h .done k,
+            count-one j (by k),
+            ap bit test,
+          )
+      go k (no m) =
+          let test : by k j ≡ false = rw (ne-eqb (unitOf (getD ranked j 0)) k (λ x. m (u-is ∙ x))) in
+          omega (arith, getD-set-other cuts u k v 0 (λ x. m (sym x)), h .done k, count-one j (by k), ap bit test)
+
+  pub deals-end : length ranked ≤ j → cuts ≡ column (length cuts₀) (λ (k : ℕ). getD cuts₀ k 0 + dealt ranked left k)
+  unfolding dealt
+  deals-end l =
+      let e : j ≡ length ranked = omega arith in
+      is-column (λ (k : ℕ). getD cuts₀ k 0 + dealt ranked left k) 0 (length cuts₀) cuts (h .places)
+      (λ k _. h .done k ∙ ap (λ (n : ℕ). getD cuts₀ k 0 + count n (λ (i : ℕ). deals ranked left k (getD ranked i 0))) e)
 
 -- what `cut_wholes` leaves may be dealt from, and then the cuts are the rule's
-module _ {s d cuts keys ranked : List ℕ} {t c left units : ℕ} (a : Asked s t c d) (ranked₀ : List ℕ) (h : WholesDone s c ranked₀ cuts keys ranked left units) where
+module _ {s sizes ranked : List ℕ} {t c left units : ℕ} (a : Asked s t c) (ranked₀ : List ℕ) (h : WholesDone s c ranked₀ sizes ranked left units) where
   ranked-is : take units ranked ≡ rankedOf (key s c) (length s)
-  ranked-is = rw (h .4) (take-at (rankedOf (key s c) (length s)) (drop units ranked₀) units (sym (h .1)))
+  ranked-is = rw (h .3) (take-at (rankedOf (key s c) (length s)) (drop units ranked₀) units (sym (h .1)))
 
   pub ranked-inside : units ≤ length ranked
-  ranked-inside = omega (arith, h .1, ap length (h .4) ∙ length-append (rankedOf (key s c) (length s)) (drop units ranked₀))
+  ranked-inside = omega (arith, h .1, ap length (h .3) ∙ length-append (rankedOf (key s c) (length s)) (drop units ranked₀))
 
-  pub may-deal : (length (take units ranked) ≤ 64) × (length keys ≡ length cuts) × ((k : ℕ) → getD cuts k 0 ≤ 1000000)
-  unfolding keysOf
+  pub may-deal : (length (take units ranked) ≤ 64)
+      × ((j : ℕ) → j < length (take units ranked) → unitOf (getD (take units ranked) j 0) < length sizes)
+      × ((k : ℕ) → getD sizes k 0 ≤ 1000000)
   may-deal = (
     rw ranked-is (omega (arith, a .sized .few, ranked-fits (key s c) (length s))),
-    rw (h .2, h .3) (column-length (key s c) (length s) ∙ sym (column-length (whole s c) (length s))),
+    rw (ranked-is, h .2, column-length (whole s c) (length s)) (ranked-each (λ (x : ℕ). unitOf x < length s) (key s c) (length s) inside),
     λ k. rw (h .2) (small k (decLt k (length s))),
   )
     where
+      inside : (i : ℕ) → i < length s → unitOf (key s c i) < length s
+      inside i l = omega (arith, key-unit s c i (omega (arith, a .sized .few)))
+
       small : (k : ℕ) → Dec (k < length s) → getD (column (length s) (whole s c)) k 0 ≤ 1000000
       small k (yes l) = omega (arith, column-at (whole s c) (length s) k 0 l, whole-size s c (omega (arith, a)) k, a .sized .small k)
       small k (no l) = omega (arith, column-past (whole s c) (length s) k 0 (omega arith))
 
-  pub all-dealt : column (length cuts) (λ (k : ℕ). getD cuts k 0 + dealt (take units ranked) left (getD keys k 0)) ≡ cutsOf s c
-  unfolding cutsOf cutAt keysOf
+  pub all-dealt : column (length sizes) (λ (k : ℕ). getD sizes k 0 + dealt (take units ranked) left k) ≡ cutsOf s c
+  unfolding cutsOf cutAt
   all-dealt =
-      rw (ranked-is, h .0, h .2, h .3, column-length (whole s c) (length s))
+      rw (ranked-is, h .0, h .2, column-length (whole s c) (length s))
       (column-ext _ (cutAt s c) (length s)
-      (λ i l. rw (column-at (whole s c) (length s) i 0 l, column-at (key s c) (length s) i 0 l)
+      (λ i l. rw (column-at (whole s c) (length s) i 0 l)
       (ap (λ (x : ℕ). whole s c i + x) (dealt-is s c (a .sized .few) i l (omega (arith, a))))))
 
 -- with nothing still to cut the whole parts are the cuts

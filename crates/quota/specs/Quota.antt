@@ -44,12 +44,11 @@ pub record Sized (s : List ℕ) : Type 0 where
   pub few : length s ≤ 64
   pub small : (i : ℕ) → getD s i 0 ≤ 1000000
 
--- what a caller of the cut has to show: t is the sum of the sizes, no more than it is cut, and d has a place for each unit's cut
-pub record Asked (s : List ℕ) (t c : ℕ) (d : List ℕ) : Type 0 where
+-- what a caller of the cut has to show: t is the sum of the sizes, and no more than it is cut
+pub record Asked (s : List ℕ) (t c : ℕ) : Type 0 where
   pub sized : Sized s
   pub total : t ≡ sum s
   pub within : c ≤ t
-  pub places : length d ≡ length s
 
 -- what the cuts r of c over the sizes s, whose sum is above 0, owe the units whatever the rule (demand 3 over one class)
 pub record Fair (s : List ℕ) (c : ℕ) (r : List ℕ) : Type 0 where

@@ -1,11 +1,11 @@
 // The pro-quota cut: one cut shared over the units of a class, in whole kWh.
 ghost use mathlib.Core.List.{_++_};
 ghost use mathlib.Core.Path.{_≡_};
-ghost use Prim.Native.Nat.{ℕ, _+_, _*_, _/_, _%_, _≤_};
+ghost use Prim.Native.Nat.{ℕ, _+_, _*_, _/_, _%_, _≤_, _<_};
 ghost use lib.ListN.{length, getD, drop};
 ghost use Rattle.numbers.specs.Column.{column};
 ghost use Rattle.quota.specs.Quota.{whole, still, cutsOf, Asked};
-ghost use Rattle.quota.specs.Keys.{key, keysOf, rankedOf, above, dealt};
+ghost use Rattle.quota.specs.Keys.{key, unitOf, rankedOf, above, dealt};
 
 // An exact share C·n / T: its whole part and its remainder.
 struct Share {
@@ -48,13 +48,12 @@ struct Odd {
     units: usize,
 }
 
-// Cuts each unit by the whole part of its share; its size gives way to its key, and the keys of units with a remainder come side by side.
-fn cut_wholes(sizes: &mut [u32], t: u32, c: u32, cuts: &mut [u32], ranked: &mut [u32]) -> Odd
-    requires { ⌜ Asked (now sizes) t c (now cuts) × (length (now ranked) ≡ length (now sizes)) ⌝ }
+// Each size gives way to the whole part of its unit's share, and the keys of the units with a remainder come side by side.
+fn cut_wholes(sizes: &mut [u32], t: u32, c: u32, ranked: &mut [u32]) -> Odd
+    requires { ⌜ Asked (now sizes) t c × (length (now ranked) ≡ length (now sizes)) ⌝ }
     ensures { λ r. ⌜ (r .left ≡ still (now (sizes .entry)) c)
         × (r .units ≡ length (rankedOf (key (now (sizes .entry)) c) (length (now (sizes .entry)))))
-        × (now (cuts .exit) ≡ column (length (now (sizes .entry))) (whole (now (sizes .entry)) c))
-        × (now (sizes .exit) ≡ keysOf (now (sizes .entry)) c)
+        × (now (sizes .exit) ≡ column (length (now (sizes .entry))) (whole (now (sizes .entry)) c))
         × (now (ranked .exit) ≡ rankedOf (key (now (sizes .entry)) c) (length (now (sizes .entry))) ++ drop (r .units) (now (ranked .entry))) ⌝ }
 {
     let mut left = c;
@@ -62,12 +61,10 @@ fn cut_wholes(sizes: &mut [u32], t: u32, c: u32, cuts: &mut [u32], ranked: &mut 
     let mut k = 0;
     while k < sizes.len() {
         let share = share_of(c, sizes[k], t);
-        cuts[k] = share.whole;
+        sizes[k] = share.whole;
         left -= share.whole;
-        let key = share.rest * 64 + (63 - k as u32);
-        sizes[k] = key;
         if 0 < share.rest {
-            ranked[units] = key;
+            ranked[units] = share.rest * 64 + (63 - k as u32);
             units += 1;
         }
         k += 1;
@@ -75,40 +72,41 @@ fn cut_wholes(sizes: &mut [u32], t: u32, c: u32, cuts: &mut [u32], ranked: &mut 
     Odd { left, units }
 }
 
-// Deals the kWh left, one each, to the units with a remainder whose keys have fewer than that above them.
-fn deal(ranked: &[u32], left: u32, keys: &[u32], cuts: &mut [u32])
-    requires { ⌜ (length (now ranked) ≤ 64) × (length (now keys) ≡ length (now cuts)) × ((k : ℕ) → getD (now cuts) k 0 ≤ 1000000) ⌝ }
+// Deals the kWh left, one each, to the units whose keys have fewer than that above them; a key tells its unit.
+fn deal(ranked: &[u32], left: u32, cuts: &mut [u32])
+    requires { ⌜ (length (now ranked) ≤ 64)
+        × ((j : ℕ) → j < length (now ranked) → unitOf (getD (now ranked) j 0) < length (now cuts))
+        × ((k : ℕ) → getD (now cuts) k 0 ≤ 1000000) ⌝ }
     ensures { λ _. ⌜ now (cuts .exit) ≡ column (length (now (cuts .entry)))
-        (λ (k : ℕ). getD (now (cuts .entry)) k 0 + dealt (now (ranked .entry)) left (getD (now (keys .entry)) k 0)) ⌝ }
+        (λ (k : ℕ). getD (now (cuts .entry)) k 0 + dealt (now (ranked .entry)) left k) ⌝ }
 {
-    let mut k = 0;
-    while k < keys.len() {
-        let key = keys[k];
-        if 64 <= key {
-            cuts[k] += (above(ranked, key) < left) as u32;
-        }
-        k += 1;
+    let mut j = 0;
+    while j < ranked.len() {
+        let key = ranked[j];
+        let k = (63 - key % 64) as usize;
+        cuts[k] += (above(ranked, key) < left) as u32;
+        j += 1;
     }
 }
 
 // The cut, with a column for the keys of units with a remainder.
-fn cut_over(sizes: &mut [u32], t: u32, c: u32, cuts: &mut [u32], ranked: &mut [u32])
-    requires { ⌜ Asked (now sizes) t c (now cuts) × (length (now ranked) ≡ length (now sizes)) ⌝ }
-    ensures { λ _. ⌜ (now (cuts .exit) ≡ cutsOf (now (sizes .entry)) c) × (now (sizes .exit) ≡ keysOf (now (sizes .entry)) c) ⌝ }
+fn cut_over(sizes: &mut [u32], t: u32, c: u32, ranked: &mut [u32])
+    requires { ⌜ Asked (now sizes) t c × (length (now ranked) ≡ length (now sizes)) ⌝ }
+    ensures { λ _. ⌜ now (sizes .exit) ≡ cutsOf (now (sizes .entry)) c ⌝ }
 {
-    let odd = cut_wholes(sizes, t, c, cuts, ranked);
+    let odd = cut_wholes(sizes, t, c, ranked);
     if odd.left == 0 {
         return;
     }
-    deal(&ranked[..odd.units], odd.left, sizes, cuts);
+    deal(&ranked[..odd.units], odd.left, sizes);
 }
 
-// The pro-quota cut of c kWh over the sizes, whose total is t, each unit's into its place of cuts; the sizes give way to the keys.
-pub fn cut(sizes: &mut [u32], t: u32, c: u32, cuts: &mut [u32])
-    requires { ⌜ Asked (now sizes) t c (now cuts) ⌝ }
-    ensures { λ _. ⌜ (now (cuts .exit) ≡ cutsOf (now (sizes .entry)) c) × (now (sizes .exit) ≡ keysOf (now (sizes .entry)) c) ⌝ }
+// The pro-quota cut of c kWh over the sizes, whose total is t: each size gives way to its unit's cut.
+pub fn cut(sizes: &mut [u32], t: u32, c: u32)
+    requires { ⌜ Asked (now sizes) t c ⌝ }
+    ensures { λ _. ⌜ now (sizes .exit) ≡ cutsOf (now (sizes .entry)) c ⌝ }
 {
     let n = sizes.len();
     let mut ranked = [0u32; 64];
-    cut_over(sizes, t, c, cuts, &mut ranked[..n]);
+    cut_over(sizes, t, c, &mut ranked[..n]);
 }

@@ -1,10 +1,13 @@
 // The units of a block, read one after another.
 ghost use mathlib.Core.Path.{_≡_};
+ghost use mathlib.Core.Bool.{_&&_};
 ghost use Prim.Native.Nat.{_+_, _≤_};
+ghost use lib.Dec.{eqb, leb};
 ghost use lib.ListN.{length};
+ghost use Rattle.numbers.specs.Bytes.{byteAt};
 ghost use Rattle.terms.specs.Refusals.{answer};
 ghost use Rattle.records.specs.Answers.{unitReply, unitRefusal};
-ghost use Rattle.records.specs.Layouts.{unitLength};
+ghost use Rattle.records.specs.Layouts.{unitKind, unitLength};
 ghost use Rattle.records.specs.Reading.{unitFieldsOf, unitOf, unitsOf};
 use crate::faults::unit_faults;
 use crate::field::no_refusal;
@@ -31,6 +34,20 @@ impl UnitAnswer {
     }
 }
 
+// Whether a unit record begins at a place, and lies there whole.
+fn is_whole(s: &[u8], at: usize) -> bool
+    ensures { λ r. ⌜ r ≡ (leb (at + unitLength) (length (now (s .entry))) && eqb (byteAt (now (s .entry)) at) unitKind) ⌝ }
+{
+    let n = s.len();
+    if n < UnitRecord::LEN {
+        return false;
+    }
+    if n - UnitRecord::LEN < at {
+        return false;
+    }
+    s[at] == UnitRecord::KIND
+}
+
 // A unit record that is there whole, judged.
 fn unit_judged(s: &[u8], at: usize, floor: u32, run: u32, limit: u16) -> UnitAnswer
     requires { ⌜ at + unitLength ≤ length (now s) ⌝ }
@@ -51,11 +68,11 @@ fn unit_judged(s: &[u8], at: usize, floor: u32, run: u32, limit: u16) -> UnitAns
 pub fn unit_at(s: &[u8], at: usize, floor: u32, run: u32, limit: u16) -> UnitAnswer
     ensures { λ r. ⌜ unitReply r ≡ unitOf (now (s .entry)) at floor run limit ⌝ }
 {
+    if is_whole(s, at) {
+        return unit_judged(s, at, floor, run, limit);
+    }
     let h = head(s, at, UnitRecord::KIND, UnitRecord::LEN);
-    let Answer::Is(_) = h else {
-        return UnitAnswer::Refused(h.refusal());
-    };
-    unit_judged(s, at, floor, run, limit)
+    UnitAnswer::Refused(h.refusal())
 }
 
 // So many units from a place on: the first refusal, or where they end.

@@ -2,15 +2,12 @@
 use Prim.Native.Nat.{ℕ}
 use mathlib.Core.Path.{_≡_, sym, _∙_}
 use mathlib.Core.List.{List}
-use Rattle.numbers.specs.Bytes.{laidAt}
 use Rattle.terms.specs.Reply.{Reply}
 use Rattle.terms.specs.declared.refusal.Answer.{Answer}
 use Rattle.terms.proofs.Same.{same-answer}
 use Rattle.records.specs.declared.day.DayRecord.{DayRecord}
 use Rattle.records.specs.declared.end.EndRecord.{EndRecord}
-use Rattle.records.specs.declared.group_result.GroupResult.{GroupResult}
 use Rattle.writers.specs.Columns.{Columns}
-use Rattle.writers.specs.Results.{Results, resultBytes}
 use Rattle.writers.specs.Writing.{Wrote, DayWritten, EndWritten, BlockWritten}
 
 module _ (entry : List ℕ) {r q : Answer} {exit other : List ℕ} where
@@ -26,7 +23,3 @@ module _ (entry : List ℕ) {r q : Answer} {exit other : List ℕ} where
   pub write-block-unique : (brp zone quarter made : ℕ) (c : Columns) → BlockWritten brp zone quarter made c entry r exit
       → BlockWritten brp zone quarter made c entry q other → (r ≡ q) × (exit ≡ other)
   write-block-unique brp zone quarter made c a b = wrote-unique a b
-
-pub lay-results-unique : (g : GroupResult) (c : Results) (entry : List ℕ) {exit other : List ℕ} → exit ≡ laidAt entry 0 (resultBytes g c)
-    → other ≡ laidAt entry 0 (resultBytes g c) → exit ≡ other
-lay-results-unique g c entry a b = a ∙ sym b

@@ -4,7 +4,7 @@ ghost use mathlib.Core.List.{[], _∷_};
 ghost use Prim.Native.Nat.{_+_, _≤_};
 ghost use lib.ListN.{length};
 ghost use Rattle.numbers.specs.Bytes.{bytes16, laidAt};
-ghost use Rattle.records.specs.Layouts.{dayBytes, groupBytes, unitBytes, endBytes, groupResultBytes};
+ghost use Rattle.records.specs.Layouts.{dayBytes, groupBytes, unitBytes, endBytes};
 ghost use Rattle.writers.specs.Runs.{quantities};
 use numbers::bytes::lay_i32;
 use numbers::bytes::lay_u8;
@@ -13,7 +13,6 @@ use numbers::bytes::lay_u32;
 use records::day::DayRecord;
 use records::end::EndRecord;
 use records::group::GroupRecord;
-use records::group_result::GroupResult;
 use records::unit::UnitRecord;
 
 // The kind, and the number of 16 bits that five of the six records begin with.
@@ -26,7 +25,7 @@ pub fn lay_head(room: &mut [u8], at: usize, kind: u8, first: u16)
 }
 
 // Three fields of a byte each.
-fn lay_three(room: &mut [u8], at: usize, a: u8, b: u8, c: u8)
+pub fn lay_three(room: &mut [u8], at: usize, a: u8, b: u8, c: u8)
     requires { ⌜ at + 3 ≤ length (now room) ⌝ }
     ensures { λ _. ⌜ now (room .exit) ≡ laidAt (now (room .entry)) at (a ∷ b ∷ c ∷ []) ⌝ }
 {
@@ -90,20 +89,4 @@ pub fn lay_end(room: &mut [u8], at: usize, e: EndRecord)
 {
     lay_u8(room, at, EndRecord::KIND);
     lay_u32(room, at + EndRecord::GROUPS, e.groups);
-}
-
-pub fn lay_group_result(room: &mut [u8], at: usize, g: GroupResult)
-    requires { ⌜ at + 27 ≤ length (now room) ⌝ }
-    ensures { λ _. ⌜ now (room .exit) ≡ laidAt (now (room .entry)) at (groupResultBytes g) ⌝ }
-{
-    let p = g.p;
-    let s1 = g.s1;
-    let s2 = g.s2;
-    let s3 = g.s3;
-    let balance = g.balance;
-    lay_head(room, at, GroupResult::KIND, g.brp);
-    lay_three(room, at + GroupResult::ZONE, g.zone, g.quarter, g.verdict);
-    lay_u8(room, at + GroupResult::COUNT, g.count);
-    lay_four(room, at + GroupResult::P, p.0, s1.0, s2.0, s3.0);
-    lay_i32(room, at + GroupResult::BALANCE, balance.0);
 }

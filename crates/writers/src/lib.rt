@@ -1,7 +1,6 @@
-// Writing house records: the three writers, and the results of a block.
+// Writing house records: the three writers.
 pub mod block;
 mod columns;
-mod lay;
+pub mod lay;
 mod refuse;
-pub mod results;
 pub mod single;

@@ -9,21 +9,18 @@ array-borrow-prefix-ranked : tie.Need-array-borrow-prefix-ranked
 array-borrow-prefix-ranked c = search needs
 
 slice-aggregate-cut-over : tie.Need-slice-aggregate-cut-over
-slice-aggregate-cut-over c = sym (length-take-le _ _ (c .before .before .before .before .before .pre .sized .few))
+slice-aggregate-cut-over c = sym (length-take-le _ _ (c .before .before .before .pre .sized .few))
 
 cut-over-requires : tie.Need-cut-over-requires
 cut-over-requires c κs =
-    let pre = c .before .before .before .before .before .pre in
+    let pre = c .before .before .before .pre in
     (pre, length-take-le _ _ (pre .sized .few))
 
 same-length : tie.Need-same-length
 same-length c = search needs
 
-same-length-2 : tie.Need-same-length-2
-same-length-2 c = search needs
-
 returns : tie.Need-returns
 returns c = search needs
 
 pub cut-spec : {M : Type 1} → statement M
-cut-spec = tie.close (tie.spec array-borrow-prefix-ranked slice-aggregate-cut-over cut-over-requires same-length same-length-2 returns)
+cut-spec = tie.close (tie.spec array-borrow-prefix-ranked slice-aggregate-cut-over cut-over-requires same-length returns)

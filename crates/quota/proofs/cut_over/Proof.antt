@@ -15,48 +15,41 @@ same-length c = search needs
 same-length-2 : tie.Need-same-length-2
 same-length-2 c = search needs
 
-same-length-3 : tie.Need-same-length-3
-same-length-3 c = search needs
-
 returns : tie.Need-returns
 returns c =
-    let start = c .before .before .before .before .before .before .before .before .before .before .before .before .before .before .before in
-    let wholes = c .before .before .before .before .before .before .before .before .cut-wholes in
-    let done = none-left (start .args .sizes .now) (start .args .c) (wholes .result .left) (wholes .ensures .0) (c .if1 .taken) in
-    (wholes .ensures .2 ∙ done, wholes .ensures .3)
+    let start = c .before .before .before .before .before .before .before .before .before .before .before in
+    let wholes = c .before .before .before .before .before .before .cut-wholes in
+    wholes .ensures .2 ∙ none-left (start .args .sizes .now) (start .args .c) (wholes .result .left) (wholes .ensures .0) (c .if1 .taken)
 
 slice-reshare-prefix-deal : tie.Need-slice-reshare-prefix-deal
 slice-reshare-prefix-deal c =
-    let start = c .before .before .before .before .before .before .before .before .before .before .before .before .before .before .before in
-    let wholes = c .before .before .before .before .before .before .before .before .cut-wholes in
+    let start = c .before .before .before .before .before .before .before .before .before .before .before in
+    let wholes = c .before .before .before .before .before .before .cut-wholes in
     ranked-inside (start .pre .0) (start .args .ranked .now) (wholes .ensures)
 
 slice-aggregate-deal : tie.Need-slice-aggregate-deal
 slice-aggregate-deal c =
-    let start = c .before .before .before .before .before .before .before .before .before .before .before .before .before .before .before .before in
-    let wholes = c .before .before .before .before .before .before .before .before .before .cut-wholes in
+    let start = c .before .before .before .before .before .before .before .before .before .before .before .before in
+    let wholes = c .before .before .before .before .before .before .before .cut-wholes in
     sym (length-take-le _ _ (ranked-inside (start .pre .0) (start .args .ranked .now) (wholes .ensures)))
 
 deal-requires : tie.Need-deal-requires
 deal-requires c κs =
-    let start = c .before .before .before .before .before .before .before .before .before .before .before .before .before .before .before .before .before .before in
-    let wholes = c .before .before .before .before .before .before .before .before .before .before .before .cut-wholes in
+    let start = c .before .before .before .before .before .before .before .before .before .before .before .before .before in
+    let wholes = c .before .before .before .before .before .before .before .before .cut-wholes in
     may-deal (start .pre .0) (start .args .ranked .now) (wholes .ensures)
+
+same-length-3 : tie.Need-same-length-3
+same-length-3 c = search needs
 
 same-length-4 : tie.Need-same-length-4
 same-length-4 c = search needs
 
-same-length-5 : tie.Need-same-length-5
-same-length-5 c = search needs
-
-same-length-6 : tie.Need-same-length-6
-same-length-6 c = search needs
-
 returns-2 : tie.Need-returns-2
 returns-2 c =
-    let start = c .before .before .before .before .before .before .before .before .before .before .before .before .before .before .before .before .before .before .before .before .before in
-    let wholes = c .before .before .before .before .before .before .before .before .before .before .before .before .before .before .cut-wholes in
-    (c .before .before .deal .ensures ∙ all-dealt (start .pre .0) (start .args .ranked .now) (wholes .ensures), wholes .ensures .3)
+    let start = c .before .before .before .before .before .before .before .before .before .before .before .before .before .before .before .before in
+    let wholes = c .before .before .before .before .before .before .before .before .before .before .before .cut-wholes in
+    c .before .before .deal .ensures ∙ all-dealt (start .pre .0) (start .args .ranked .now) (wholes .ensures)
 
 pub cut-over-spec : {M : Type 1} → statement M
 cut-over-spec =
@@ -65,12 +58,10 @@ cut-over-spec =
     cut-wholes-requires
     same-length
     same-length-2
-    same-length-3
     returns
     slice-reshare-prefix-deal
     slice-aggregate-deal
     deal-requires
+    same-length-3
     same-length-4
-    same-length-5
-    same-length-6
     returns-2)

@@ -12,10 +12,10 @@ use Rattle.quota.proofs.cut_wholes.Statement.{statement}
 use Rattle.quota.proofs.cut_wholes.Tie as tie
 
 abbrev Inv-loop : tie.InvT-loop
-Inv-loop sizes₀ t c cuts₀ ranked₀ left₀ units₀ k₀ sizes cuts ranked left units k = Wholes sizes₀ c ranked₀ cuts sizes ranked left units k
+Inv-loop sizes₀ t c ranked₀ left₀ units₀ k₀ sizes ranked left units k = Wholes sizes₀ c ranked₀ sizes ranked left units k
 
 abbrev μ-loop : tie.MeasureT-loop
-μ-loop sizes₀ t c cuts₀ ranked₀ left₀ units₀ k₀ sizes cuts ranked left units k = length sizes₀ - k
+μ-loop sizes₀ t c ranked₀ left₀ units₀ k₀ sizes ranked left units k = length sizes₀ - k
 
 loop-holds : tie.Need-loop-holds Inv-loop μ-loop
 unfolding sumTo rankedOf
@@ -29,43 +29,9 @@ slice-read-share-of c = search needs
 
 share-of-requires : tie.Need-share-of-requires Inv-loop μ-loop
 share-of-requires c κs =
-    let start = c .before .before .before .before .before .before in
-    let asked = start .pre .0 in
+    let asked = c .before .before .before .before .before .pre .0 in
     let o = c .before .before .loop in
     (asked .within, total-small asked, omega (arith, o .inv .todo (o .k) (le-refl (o .k)), asked .sized .small (o .k)))
-
-mul-cuts : tie.Need-mul-cuts Inv-loop μ-loop
-mul-cuts c = search needs
-
-slice-write-cuts : tie.Need-slice-write-cuts Inv-loop μ-loop
-slice-write-cuts c = search needs
-
-sub-left : tie.Need-sub-left Inv-loop μ-loop
-sub-left c =
-    let asked = c .before .before .before .before .before .before .before .before .pre .0 in
-    let share = c .before .share-of in
-    whole-left asked (c .before .before .before .before .loop .inv) (share .result .whole) (share .result .rest)
-    (c .before .before .before .loop-test .taken) (share .ensures .0) (share .ensures .1)
-
--- a key fits where it is made
-small : (c : tie.After-struct-known2 Inv-loop μ-loop) → c .before .before .share-of .result .rest ≤ 64000000
-small c =
-    let start = c .before .before .before .before .before .before .before .before .before in
-    let a = start .args in
-    let asked = start .pre .0 in
-    rest-small (a .c) _ (a .t) _ (asked .within) (total-small asked) (c .before .before .share-of .ensures .1)
-
-mul-key : tie.Need-mul-key Inv-loop μ-loop
-mul-key c = omega (arith, small c)
-
-cast-key : tie.Need-cast-key Inv-loop μ-loop
-cast-key c = search needs
-
-sub-key : tie.Need-sub-key Inv-loop μ-loop
-sub-key c = search needs
-
-add-key : tie.Need-add-key Inv-loop μ-loop
-add-key c = omega (arith, small c)
 
 mul-sizes : tie.Need-mul-sizes Inv-loop μ-loop
 mul-sizes c = search needs
@@ -73,8 +39,35 @@ mul-sizes c = search needs
 slice-write-sizes : tie.Need-slice-write-sizes Inv-loop μ-loop
 slice-write-sizes c = search needs
 
+sub-left : tie.Need-sub-left Inv-loop μ-loop
+sub-left c =
+    let asked = c .before .before .before .before .before .before .before .pre .0 in
+    let share = c .before .share-of in
+    whole-left asked (c .before .before .before .before .loop .inv) (share .result .whole) (share .result .rest)
+    (c .before .before .before .loop-test .taken) (share .ensures .0) (share .ensures .1)
+
+-- a key fits where it is made
+small : (c : tie.After-struct-known3 Inv-loop μ-loop) → c .before .before .before .before .share-of .result .rest ≤ 64000000
+small c =
+    let start = c .before .before .before .before .before .before .before .before .before .before in
+    let a = start .args in
+    let asked = start .pre .0 in
+    rest-small (a .c) _ (a .t) _ (asked .within) (total-small asked) (c .before .before .before .before .share-of .ensures .1)
+
 mul-ranked : tie.Need-mul-ranked Inv-loop μ-loop
-mul-ranked c = search needs
+mul-ranked c = omega (arith, small c)
+
+cast-ranked : tie.Need-cast-ranked Inv-loop μ-loop
+cast-ranked c = search needs
+
+sub-ranked : tie.Need-sub-ranked Inv-loop μ-loop
+sub-ranked c = search needs
+
+add-ranked : tie.Need-add-ranked Inv-loop μ-loop
+add-ranked c = omega (arith, small c)
+
+mul-ranked-2 : tie.Need-mul-ranked-2 Inv-loop μ-loop
+mul-ranked-2 c = search needs
 
 slice-write-ranked : tie.Need-slice-write-ranked Inv-loop μ-loop
 slice-write-ranked c = search needs
@@ -90,13 +83,13 @@ loop-less c = search needs
 
 loop-again : tie.Need-loop-again Inv-loop μ-loop
 loop-again c =
-    let pre = c .before .before .before .before .before .before .before .before .before .before .before .pre in
-    let share = c .before .before .before .before .share-of in
+    let pre = c .before .before .before .before .before .before .before .before .before .pre in
+    let share = c .before .before .before .share-of in
     let w = share .result .whole in
     let r = share .result .rest in
-    let inv = c .before .before .before .before .before .before .before .loop .inv in
-    let l = c .before .before .before .before .before .before .loop-test .taken in
-    ⊎-elim (λ p. rw (p .1, p .2) (wholes-more (pre .0) inv w r l (share .ensures .0) (share .ensures .1) (p .0 .taken) (pre .1)))
+    let inv = c .before .before .before .before .before .before .loop .inv in
+    let l = c .before .before .before .before .before .loop-test .taken in
+    ⊎-elim (λ p. rw (p .2, p .3) (wholes-more (pre .0) inv w r l (share .ensures .0) (share .ensures .1) (p .0 .taken) (pre .1)))
     (λ p. rw (p .1, p .2) (wholes-plain (pre .0) inv w r l (share .ensures .0) (share .ensures .1) (omega (arith, p .0 .left))))
     (c .if1 .came)
 
@@ -106,11 +99,8 @@ same-length c = search needs
 same-length-2 : tie.Need-same-length-2 Inv-loop μ-loop
 same-length-2 c = search needs
 
-same-length-3 : tie.Need-same-length-3 Inv-loop μ-loop
-same-length-3 c = search needs
-
 returns : tie.Need-returns Inv-loop μ-loop
-returns c = wholes-end (c .before .before .before .before .before .pre .0) (c .before .loop .inv) (c .loop-test .left)
+returns c = wholes-end (c .before .before .before .before .pre .0) (c .before .loop .inv) (c .loop-test .left)
 
 pub cut-wholes-spec : {M : Type 1} → statement M
 cut-wholes-spec =
@@ -122,16 +112,14 @@ cut-wholes-spec =
     mul-share-of
     slice-read-share-of
     share-of-requires
-    mul-cuts
-    slice-write-cuts
-    sub-left
-    mul-key
-    cast-key
-    sub-key
-    add-key
     mul-sizes
     slice-write-sizes
+    sub-left
     mul-ranked
+    cast-ranked
+    sub-ranked
+    add-ranked
+    mul-ranked-2
     slice-write-ranked
     add-units
     add-k
@@ -139,5 +127,4 @@ cut-wholes-spec =
     loop-again
     same-length
     same-length-2
-    same-length-3
     returns)

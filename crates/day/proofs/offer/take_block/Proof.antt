@@ -33,7 +33,7 @@ take-units-requires c κs =
     let s = c .before .before .before .before .before .before .before .before in
     let x = s .args in
     let p = group-passed (now (x .s)) (x .day .«record») (x .day .last) (sym (c .before .before .before .before .group-fields .ensures) ∙ ap groupReply (c .before .before .g .given .1)) in
-    (s .pre .0, rw (p .value) (p .most))
+    (s .pre .0, (p .value, rw (p .value) (p .most)))
 
 enum-known-b : tie.Need-enum-known-b
 enum-known-b c = search needs

@@ -2,7 +2,10 @@
 use mathlib.Core.Path.{sym, ap, _∙_}
 use borrow.Author.Needs.{needs}
 use denote.Ref.{now}
-use Rattle.day.specs.Blocks.{unitsReply}
+use Rattle.numbers.specs.Bytes.{laidAt}
+use Rattle.records.specs.declared.group.GroupRecord.{GroupRecord}
+use Rattle.records.specs.Reading.{keyOf}
+use Rattle.day.specs.Blocks.{unitsReply, resultIn}
 use Rattle.day.proofs.Passing.{units-end, writable-of}
 use Rattle.day.proofs.UnitsTaken.{stopped, crowded, laid}
 use Rattle.day.proofs.result.take_through.Tie as tie
@@ -12,7 +15,7 @@ cast-units-into : tie.Need-cast-units-into
 cast-units-into c = search needs
 
 units-into-requires : tie.Need-units-into-requires
-units-into-requires c κs = c .before .before .before .before .before .before .before .before .before .before .pre .1 .values
+units-into-requires c κs = search needs
 
 enum-known-u : tie.Need-enum-known-u
 enum-known-u c = search needs
@@ -24,94 +27,62 @@ refusal-requires : tie.Need-refusal-requires
 refusal-requires c κs = search needs
 
 same-length : tie.Need-same-length
-same-length c = c .before .before .before .before .before .before .before .before .before .before .units-into .kept .1 .1 .1 .1 .0
+same-length c = search needs
 
 same-length-2 : tie.Need-same-length-2
-same-length-2 c = c .before .before .before .before .before .before .before .before .before .before .units-into .kept .1 .1 .1 .1 .1 .1 .0
-
-same-length-3 : tie.Need-same-length-3
-same-length-3 c = c .before .before .before .before .before .before .before .before .before .before .units-into .kept .1 .1 .1 .1 .1 .1 .1 .0
-
-same-length-4 : tie.Need-same-length-4
-same-length-4 c = c .before .before .before .before .before .before .before .before .before .before .units-into .kept .1 .1 .1 .1 .1 .1 .1 .1 .0
-
-same-length-5 : tie.Need-same-length-5
-same-length-5 c = c .before .before .before .before .before .before .before .before .before .before .units-into .kept .1 .1 .1 .1 .1 .0
+same-length-2 c = search needs
 
 returns : tie.Need-returns
 returns c =
     let told = c .before .enum-told .given .1 in
-    let r = c .before .before .before .before .before .before .before .before .before .before .units-into .ensures in
+    let r = c .before .before .before .before .before .before .units-into .ensures in
     rw (c .refusal .ensures, told) (stopped _ _ _ _ _ _ _ (sym (r .replied) ∙ ap unitsReply told))
 
 of-requires : tie.Need-of-requires
 of-requires c κs = search needs
 
-same-length-6 : tie.Need-same-length-6
-same-length-6 c = c .before .before .before .before .before .before .before .before .before .before .before .before .before .units-into .kept .1 .1 .1 .1 .0
+same-length-3 : tie.Need-same-length-3
+same-length-3 c = search needs
 
-same-length-7 : tie.Need-same-length-7
-same-length-7 c = c .before .before .before .before .before .before .before .before .before .before .before .before .before .units-into .kept .1 .1 .1 .1 .1 .1 .0
-
-same-length-8 : tie.Need-same-length-8
-same-length-8 c = c .before .before .before .before .before .before .before .before .before .before .before .before .before .units-into .kept .1 .1 .1 .1 .1 .1 .1 .0
-
-same-length-9 : tie.Need-same-length-9
-same-length-9 c = c .before .before .before .before .before .before .before .before .before .before .before .before .before .units-into .kept .1 .1 .1 .1 .1 .1 .1 .1 .0
-
-same-length-10 : tie.Need-same-length-10
-same-length-10 c = c .before .before .before .before .before .before .before .before .before .before .before .before .before .units-into .kept .1 .1 .1 .1 .1 .0
+same-length-4 : tie.Need-same-length-4
+same-length-4 c = search needs
 
 returns-2 : tie.Need-returns-2
 returns-2 c =
-    let r = c .before .before .before .before .before .before .before .before .before .before .before .before .before .units-into .ensures in
+    let r = c .before .before .before .before .before .before .before .before .before .units-into .ensures in
     let e = sym (r .replied) ∙ ap unitsReply (c .before .before .before .before .u .given .1) in
     crowded _ _ _ _ _ _ (units-end _ _ _ _ e) (rw (c .before .before .of .ensures) at (c .if1 .taken))
 
 write-through-requires : tie.Need-write-through-requires
 write-through-requires c κs =
-    let s = c .before .before .before .before .before .before .before .before .before .before .before .before .before .before .before .before .before .before .before .before .before .before .before .before .before .before .before .before .before .before .before .before .before .before in
+    let s = c .before .before .before .before .before .before .before .before .before .before .before .before .before .before .before .before .before .before .before .before .before in
     let x = s .args in
-    let e = ap unitsReply (c .before .before .before .before .before .before .before .before .before .before .before .before .before .before .u .given .1) in
-    let r = c .before .before .before .before .before .before .before .before .before .before .before .before .before .before .before .before .before .before .before .before .before .before .before .units-into .ensures in
-    let v = c .before .before .before .before .before .before .before .before .before .before .before .before .of .ensures in
-    let h = rw v at (c .before .before .before .before .before .before .before .before .before .before .if1 .left) in
-    rw v (writable-of (now (x .s)) (x .group .count) (x .run) (x .limit) (sym (r .replied) ∙ e) (r .decoded _ e) (s .pre .0) (s .pre .1 .values .few) (s .pre .1 .steps) h)
+    let e = ap unitsReply (c .before .before .before .before .before .before .before .before .u .given .1) in
+    let r = c .before .before .before .before .before .before .before .before .before .before .before .before .before .units-into .ensures in
+    let h = rw (c .before .before .before .before .before .before .of .ensures) at (c .before .before .before .before .if1 .left) in
+    writable-of (now (x .s)) (x .group) (x .run) (x .limit) (sym (r .replied) ∙ e) (r .decoded _ e) (s .pre .own) (s .pre .long) (s .pre .values .few) (s .pre .clear) h
 
-same-length-11 : tie.Need-same-length-11
-same-length-11 c = search needs
+same-length-5 : tie.Need-same-length-5
+same-length-5 c = search needs
 
-same-length-12 : tie.Need-same-length-12
-same-length-12 c = c .before .before .before .before .before .before .before .before .before .before .before .before .before .before .before .before .before .before .before .before .before .before .before .before .before .before .before .before .before .before .before .units-into .kept .1 .1 .1 .1 .0
+same-length-6 : tie.Need-same-length-6
+same-length-6 c = search needs
 
-same-length-13 : tie.Need-same-length-13
-same-length-13 c = c .before .before .before .before .before .before .before .before .before .before .before .before .before .before .before .before .before .before .before .before .before .before .before .before .before .before .before .before .before .before .before .units-into .kept .1 .1 .1 .1 .1 .1 .0
+same-length-7 : tie.Need-same-length-7
+same-length-7 c = search needs
 
-same-length-14 : tie.Need-same-length-14
-same-length-14 c = c .before .before .before .before .before .before .before .before .before .before .before .before .before .before .before .before .before .before .before .before .before .before .before .before .before .before .before .before .before .before .before .units-into .kept .1 .1 .1 .1 .1 .1 .1 .0
-
-same-length-15 : tie.Need-same-length-15
-same-length-15 c = c .before .before .before .before .before .before .before .before .before .before .before .before .before .before .before .before .before .before .before .before .before .before .before .before .before .before .before .before .before .before .before .units-into .kept .1 .1 .1 .1 .1 .1 .1 .1 .0
-
-same-length-16 : tie.Need-same-length-16
-same-length-16 c = search needs
-
-same-length-17 : tie.Need-same-length-17
-same-length-17 c = search needs
-
-same-length-18 : tie.Need-same-length-18
-same-length-18 c = search needs
-
-same-length-19 : tie.Need-same-length-19
-same-length-19 c = (c .before .before .before .before .before .before .before .write-through .kept .1 .1 .1 .1 .1 .1 .1 .1 .1 .1 .1 .1 .0) ∙ (c .before .before .before .before .before .before .before .before .before .before .before .before .before .before .before .before .before .before .before .before .before .before .before .before .before .before .before .before .before .before .before .units-into .kept .1 .1 .1 .1 .1 .0)
+same-length-8 : tie.Need-same-length-8
+same-length-8 c = search needs
 
 returns-3 : tie.Need-returns-3
 returns-3 c =
-    let r = c .before .before .before .before .before .before .before .before .before .before .before .before .before .before .before .before .before .before .before .before .before .before .before .before .before .before .before .before .before .before .before .units-into .ensures in
-    let e = sym (r .replied) ∙ ap unitsReply (c .before .before .before .before .before .before .before .before .before .before .before .before .before .before .before .before .before .before .before .before .before .before .u .given .1) in
-    let v = c .before .before .before .before .before .before .before .before .before .before .before .before .before .before .before .before .before .before .before .before .of .ensures in
-    let h = rw v at (c .before .before .before .before .before .before .before .before .before .before .before .before .before .before .before .before .before .before .if1 .left) in
-    laid _ _ _ _ _ _ (units-end _ _ _ _ e) v h (rw v at (c .before .before .before .before .before .before .before .write-through .ensures))
+    let s = c .before .before .before .before .before .before .before .before .before .before .before .before .before .before .before .before .before .before .before .before .before .before .before .before .before .before in
+    let x = s .args in
+    let r = c .before .before .before .before .before .before .before .before .before .before .before .before .before .before .before .before .before .before .units-into .ensures in
+    let e = sym (r .replied) ∙ ap unitsReply (c .before .before .before .before .before .before .before .before .before .before .before .before .before .u .given .1) in
+    let v = c .before .before .before .before .before .before .before .before .before .before .before .of .ensures in
+    let own = ap (λ (g : GroupRecord). laidAt (now (x .room)) 0 (resultIn (now (x .s)) (keyOf g) (g .count))) (sym (s .pre .own)) in
+    laid _ _ _ _ _ _ (units-end _ _ _ _ e) v (rw v at (c .before .before .before .before .before .before .before .before .before .if1 .left)) (c .before .before .before .before .write-through .ensures ∙ own)
 
 pub take-through-spec : {M : Type 1} → statement M
 take-through-spec =
@@ -124,25 +95,14 @@ take-through-spec =
     refusal-requires
     same-length
     same-length-2
-    same-length-3
-    same-length-4
-    same-length-5
     returns
     of-requires
+    same-length-3
+    same-length-4
+    returns-2
+    write-through-requires
+    same-length-5
     same-length-6
     same-length-7
     same-length-8
-    same-length-9
-    same-length-10
-    returns-2
-    write-through-requires
-    same-length-11
-    same-length-12
-    same-length-13
-    same-length-14
-    same-length-15
-    same-length-16
-    same-length-17
-    same-length-18
-    same-length-19
     returns-3)

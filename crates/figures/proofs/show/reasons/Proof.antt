@@ -21,6 +21,27 @@ text-requires c κs = tt
 loop-holds : tie.Need-loop-holds Inv-loop μ-loop
 loop-holds c = omega arith
 
+mul-zero-outside : tie.Need-mul-zero-outside Inv-loop μ-loop
+mul-zero-outside c = omega arith
+
+shared-slice-copy-out-zero-outside : tie.Need-shared-slice-copy-out-zero-outside Inv-loop μ-loop
+shared-slice-copy-out-zero-outside c = omega arith
+
+mul-zero-outside-2 : tie.Need-mul-zero-outside-2 Inv-loop μ-loop
+mul-zero-outside-2 c = omega arith
+
+shared-slice-copy-out-zero-outside-2 : tie.Need-shared-slice-copy-out-zero-outside-2 Inv-loop μ-loop
+shared-slice-copy-out-zero-outside-2 c = omega arith
+
+mul-zero-outside-3 : tie.Need-mul-zero-outside-3 Inv-loop μ-loop
+mul-zero-outside-3 c = omega arith
+
+shared-slice-copy-out-zero-outside-3 : tie.Need-shared-slice-copy-out-zero-outside-3 Inv-loop μ-loop
+shared-slice-copy-out-zero-outside-3 c = omega arith
+
+zero-outside-requires : tie.Need-zero-outside-requires Inv-loop μ-loop
+zero-outside-requires c κs = tt
+
 mul-reason : tie.Need-mul-reason Inv-loop μ-loop
 mul-reason c = omega arith
 
@@ -44,18 +65,6 @@ mul-reason-4 c = omega arith
 
 shared-slice-copy-out-reason-4 : tie.Need-shared-slice-copy-out-reason-4 Inv-loop μ-loop
 shared-slice-copy-out-reason-4 c = omega arith
-
-mul-reason-5 : tie.Need-mul-reason-5 Inv-loop μ-loop
-mul-reason-5 c = omega arith
-
-shared-slice-copy-out-reason-5 : tie.Need-shared-slice-copy-out-reason-5 Inv-loop μ-loop
-shared-slice-copy-out-reason-5 c = omega arith
-
-mul-reason-6 : tie.Need-mul-reason-6 Inv-loop μ-loop
-mul-reason-6 c = omega arith
-
-shared-slice-copy-out-reason-6 : tie.Need-shared-slice-copy-out-reason-6 Inv-loop μ-loop
-shared-slice-copy-out-reason-6 c = omega arith
 
 reason-requires : tie.Need-reason-requires Inv-loop μ-loop
 reason-requires c κs = tt
@@ -90,6 +99,13 @@ reasons-spec =
     slice-aggregate-text
     text-requires
     loop-holds
+    mul-zero-outside
+    shared-slice-copy-out-zero-outside
+    mul-zero-outside-2
+    shared-slice-copy-out-zero-outside-2
+    mul-zero-outside-3
+    shared-slice-copy-out-zero-outside-3
+    zero-outside-requires
     mul-reason
     shared-slice-copy-out-reason
     mul-reason-2
@@ -98,10 +114,6 @@ reasons-spec =
     shared-slice-copy-out-reason-3
     mul-reason-4
     shared-slice-copy-out-reason-4
-    mul-reason-5
-    shared-slice-copy-out-reason-5
-    mul-reason-6
-    shared-slice-copy-out-reason-6
     reason-requires
     slice-aggregate-named
     cast-named

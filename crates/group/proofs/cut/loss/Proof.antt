@@ -1,4 +1,4 @@
--- `loss` meets its contract, by whether those not enabled lose all and by the unit's standing.
+-- `loss` meets its contract, by the unit's standing.
 use mathlib.Core.Path.{sym, _∙_}
 use borrow.Author.Needs.{needs}
 use mir.Facts.{toZ-ofZ}
@@ -15,19 +15,15 @@ size-requires c κs = search needs
 returns : tie.Need-returns
 unfolding lossOf
 returns c =
-    let s = c .before .before .before .before in
-    let t = sym (c .before .before .holds .ensures) ∙ c .before .if2 .taken in
-    simp (c .before .before .before .if1 .taken, t) (simp (toZ-ofZ (s .fits .n1)) at (c .size .ensures))
+    let s = c .before .before .before in
+    let t = sym (c .before .before .holds .ensures) ∙ c .before .if1 .taken in
+    simp t (simp (toZ-ofZ (s .fits .n1)) at (c .size .ensures))
 
 returns-2 : tie.Need-returns-2
 unfolding lossOf
 returns-2 c =
-    let t = sym (c .before .holds .ensures) ∙ c .if2 .left in
-    simp (c .before .before .if1 .taken, t)
-
-returns-3 : tie.Need-returns-3
-unfolding lossOf
-returns-3 c = simp (c .if1 .left)
+    let t = sym (c .before .holds .ensures) ∙ c .if1 .left in
+    simp t
 
 pub loss-spec : {M : Type 1} → statement M
-loss-spec = tie.close (tie.spec holds-requires size-requires returns returns-2 returns-3)
+loss-spec = tie.close (tie.spec holds-requires size-requires returns returns-2)

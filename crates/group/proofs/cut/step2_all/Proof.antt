@@ -1,65 +1,83 @@
--- `step2_all` meets its contract, which is that of `cut_through` over its two columns of 64; with no excess nothing is cut.
-use mathlib.Core.Path.{_≡_, sym, _∙_}
+-- `step2_all` meets its contract: what it takes off n1 is the column of losses, written to the first places of 64.
+use Prim.Native.Nat.{ℕ}
+use mathlib.Core.Path.{_≡_, sym, ap, ap₂, _∙_, subst}
+use mathlib.Core.List.{List}
+use borrow.Author.Needs.{needs}
 use denote.Ref.{now}
-use lib.IntN.{pos}
+use lib.ListN.{length}
 use lib.Seq.{length-take-le}
 use mir.Facts.{toZ-ofZ}
-use mir.Syntax.{w32}
-use Rattle.numbers.proofs.Integers.{ofZ-inj, zero-fits}
-use Rattle.group.proofs.Uncut.{kept}
-use borrow.Author.Needs.{needs}
-use Rattle.group.proofs.cut.step2_all.Statement.{statement}
+use Rattle.terms.specs.declared.quantity.Direction.{Direction}
+use Rattle.group.specs.Steps.{directionOf}
+use Rattle.group.specs.Asked.{lossesOf, left, Lost}
+use Rattle.group.proofs.Losses.{losses-length, left-is, lost, lent, room, lent-again}
 use Rattle.group.proofs.cut.step2_all.Tie as tie
+use Rattle.group.proofs.cut.step2_all.Statement.{statement}
 
-keep-requires : tie.Need-keep-requires
-keep-requires c κs = search needs
+array-borrow-prefix-losses : tie.Need-array-borrow-prefix-losses
+array-borrow-prefix-losses c = search needs
+
+slice-aggregate-losses-into : tie.Need-slice-aggregate-losses-into
+slice-aggregate-losses-into c = sym (length-take-le _ _ (c .before .before .pre .0 .classed .few))
+
+losses-into-requires : tie.Need-losses-into-requires
+losses-into-requires c κs =
+    let s = c .before .before in
+    (rw (toZ-ofZ (s .fits .e)) (s .pre .0), lent (s .pre .0 .classed .few))
+
+direction-requires : tie.Need-direction-requires
+direction-requires c κs = search needs
+
+-- what is written, and to how many places
+written : (c : tie.After-losses-into) → c .losses-into .last .1 .1 .1 .0 ≡ lossesOf (c .before .before .before .args .e) (now (c .before .before .before .args .n1)) (now (c .before .before .before .args .class))
+written c = rw (toZ-ofZ (c .before .before .before .fits .e)) at (c .losses-into .ensures)
+
+places : (c : tie.After-losses-into) → length (c .losses-into .last .1 .1 .1 .0) ≡ length (now (c .before .before .before .args .n1))
+places c =
+    let a = c .before .before .before .args in
+    ap length (written c) ∙ losses-length (a .e) (now (a .n1)) (now (a .class))
+
+array-share-prefix-losses : tie.Need-array-share-prefix-losses
+array-share-prefix-losses c =
+    let b = c .before .before in
+    room (b .losses-into .last .1 .1 .1 .0) (places b)
+
+slice-aggregate-take-off : tie.Need-slice-aggregate-take-off
+slice-aggregate-take-off c =
+    let b = c .before .before .before in
+    sym (ap length (lent-again (b .losses-into .last .1 .1 .1 .0) (places b)) ∙ places b)
+
+take-off-requires : tie.Need-take-off-requires
+take-off-requires c κs =
+    let b = c .before .before .before .before in
+    let s = b .before .before .before in
+    let a = s .args in
+    subst (λ (l : List ℕ). Lost (now (a .n1)) l (now (a .n2))) (sym (lent-again (b .losses-into .last .1 .1 .1 .0) (places b) ∙ written b))
+    (lost (a .e) (now (a .n1)) (now (a .class)) (s .pre .0) (s .pre .1))
 
 same-length : tie.Need-same-length
 same-length c = search needs
 
 returns : tie.Need-returns
 returns c =
-    let s = c .before .before .before .before .before in
-    let z : s .args .e ≡ pos 0 = ofZ-inj w32 (s .args .e) (pos 0) (s .fits .e) (zero-fits w32) (c .before .before .before .if1 .taken) in
-    rw z (c .before .keep .ensures ∙ sym (kept (now (s .args .n1)) (now (s .args .class))))
-
-array-borrow-prefix-sizes : tie.Need-array-borrow-prefix-sizes
-array-borrow-prefix-sizes c = search needs
-
-slice-aggregate-cut-through : tie.Need-slice-aggregate-cut-through
-slice-aggregate-cut-through c = sym (length-take-le _ _ (c .before .before .before .before .pre .classed .few))
-
-array-borrow-prefix-cuts : tie.Need-array-borrow-prefix-cuts
-array-borrow-prefix-cuts c = search needs
-
-slice-aggregate-cut-through-2 : tie.Need-slice-aggregate-cut-through-2
-slice-aggregate-cut-through-2 c = sym (length-take-le _ _ (c .before .before .before .before .before .pre .classed .few))
-
-cut-through-requires : tie.Need-cut-through-requires
-cut-through-requires c κs =
-    let s = c .before .before .before .before .before in
-    let h = s .pre .classed .few in
-    (rw (toZ-ofZ (s .fits .e)) (s .pre), (length-take-le _ _ h, length-take-le _ _ h))
-
-same-length-2 : tie.Need-same-length-2
-same-length-2 c = search needs
-
-returns-2 : tie.Need-returns-2
-returns-2 c =
-    let s = c .before .before .before .before .before .before .before .before .before in
-    rw (toZ-ofZ (s .fits .e)) at (c .before .before .before .cut-through .ensures)
+    let b = c .before .before .before .before .before .before in
+    let s = b .before .before .before in
+    let a = s .args in
+    let d : c .before .before .before .before .direction .result ≡ directionOf (a .e) = simp (toZ-ofZ (s .fits .e)) at (c .before .before .before .before .direction .ensures) in
+    c .before .take-off .ensures
+    ∙ ap₂ (λ (x : Direction) (l : List ℕ). left x (now (a .n1)) l) d (lent-again (b .losses-into .last .1 .1 .1 .0) (places b) ∙ written b)
+    ∙ left-is (a .e) (now (a .n1)) (now (a .class))
 
 pub step2-all-spec : {M : Type 1} → statement M
 step2-all-spec =
     tie.close
     (tie.spec
-    keep-requires
+    array-borrow-prefix-losses
+    slice-aggregate-losses-into
+    losses-into-requires
+    direction-requires
+    array-share-prefix-losses
+    slice-aggregate-take-off
+    take-off-requires
     same-length
-    returns
-    array-borrow-prefix-sizes
-    slice-aggregate-cut-through
-    array-borrow-prefix-cuts
-    slice-aggregate-cut-through-2
-    cut-through-requires
-    same-length-2
-    returns-2)
+    returns)

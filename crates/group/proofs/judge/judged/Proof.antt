@@ -11,8 +11,7 @@ use Rattle.numbers.specs.Sum.{sumZ}
 use Rattle.group.specs.Steps.{bandOf, excessOf}
 use Rattle.group.specs.Group.{step1All, step2All, step3All}
 use Rattle.group.proofs.Bands.{low-within, high-within}
-use Rattle.group.proofs.Bearing.{bearable}
-use Rattle.group.proofs.Judging.{n1-length, n1-classed, n2-length, n2-few, n2-small, s1-within, s2-within, s3-within, read, sums-same}
+use Rattle.group.proofs.Judging.{n1-length, n1-bearable, n2-length, n2-few, n2-small, s1-within, s2-within, s3-within, read, sums-same}
 use Rattle.group.proofs.judge.judged.Tie as tie
 use Rattle.group.proofs.judge.judged.Statement.{statement}
 
@@ -45,7 +44,7 @@ step2-all-requires c κs =
     let x1 = c .before .before .before .before .step1-all .ensures .1 in
     let s1 : toZ w32 (ofZ w32 (c .before .before .before .before .step1-all .result)) ≡ sumZ m1 = toZ-ofZ (record { sfits = c .before .before .before .before .step1-all .ok }) ∙ c .before .before .before .before .step1-all .ensures .0 in
     let e : toZ w32 (ofZ w32 (c .before .before .excess .result)) ≡ excessOf (bandOf p) (sumZ m1) = toZ-ofZ (record { sfits = c .before .before .excess .ok }) ∙ c .before .before .excess .ensures ∙ ap₂ excessOf b s1 in
-    rw (e, x1) (record { classed = n1-classed h; borne = bearable p m1 class (n1-classed h); places = h .seconds ∙ sym (n1-length h) })
+    rw (e, x1) (n1-bearable h, h .seconds ∙ sym (n1-length h))
 
 step3-all-requires : tie.Need-step3-all-requires
 step3-all-requires c κs =

@@ -2,7 +2,7 @@
 use native.Mathlib.Omega.{arith}
 use borrow.Author.Needs.{needs}
 use mir.Facts.{toZ-ofZ}
-use Rattle.group.specs.Steps.{reasonOf}
+use Rattle.group.specs.Steps.{reasonBy}
 use Rattle.group.proofs.unit.reason.Tie as tie
 use Rattle.group.proofs.unit.reason.Statement.{statement}
 
@@ -36,9 +36,6 @@ add-second c = search needs
 add-result : tie.Need-add-result
 add-result c = search needs
 
-zero-outside-requires : tie.Need-zero-outside-requires
-zero-outside-requires c κs = search needs
-
 weight-requires-5 : tie.Need-weight-requires-5
 weight-requires-5 c κs = search needs
 
@@ -46,15 +43,14 @@ add-result-2 : tie.Need-add-result-2
 add-result-2 c = search needs
 
 returns : tie.Need-returns
-unfolding reasonOf
+unfolding reasonBy
 returns c =
-    let s = c .before .before .before .before .before .before .before .before .before in
-    let a = c .before .before .before .before .before .before .before .before .weight .ensures .0 in
-    let d = simp (c .before .before .before .before .before .before .before .differ .ensures, toZ-ofZ (s .fits .n0), toZ-ofZ (s .fits .n1)) at (c .before .before .before .before .before .before .weight2 .ensures .0) in
-    let e = simp (c .before .before .before .before .before .differ2 .ensures, toZ-ofZ (s .fits .n1), toZ-ofZ (s .fits .n2)) at (c .before .before .before .before .weight3 .ensures .0) in
-    let f = simp (c .before .before .before .differ3 .ensures, toZ-ofZ (s .fits .n2), toZ-ofZ (s .fits .n3)) at (c .before .before .weight4 .ensures .0) in
-    let g = simp (c .before .zero-outside .ensures, toZ-ofZ (s .fits .n3), toZ-ofZ (s .fits .step-down), toZ-ofZ (s .fits .step-up)) at (c .weight5 .ensures .0) in
-    rw (a, d, e, f, g) (omega arith)
+    let s = c .before .before .before .before .before .before .before .before in
+    let a = c .before .before .before .before .before .before .before .weight .ensures .0 in
+    let d = simp (c .before .before .before .before .before .before .differ .ensures, toZ-ofZ (s .fits .n0), toZ-ofZ (s .fits .n1)) at (c .before .before .before .before .before .weight2 .ensures .0) in
+    let e = simp (c .before .before .before .before .differ2 .ensures, toZ-ofZ (s .fits .n1), toZ-ofZ (s .fits .n2)) at (c .before .before .before .weight3 .ensures .0) in
+    let f = simp (c .before .before .differ3 .ensures, toZ-ofZ (s .fits .n2), toZ-ofZ (s .fits .n3)) at (c .before .weight4 .ensures .0) in
+    rw (a, d, e, f, c .weight5 .ensures .0) (omega arith)
 
 pub reason-spec : {M : Type 1} → statement M
 reason-spec =
@@ -70,7 +66,6 @@ reason-spec =
     weight-requires-4
     add-second
     add-result
-    zero-outside-requires
     weight-requires-5
     add-result-2
     returns)

@@ -1,0 +1,64 @@
+-- The column of what every unit loses: a quantity for each unit, and taken off n1 it leaves step 2.
+use Prim.Native.Nat.{ℕ, _≤_, _<_}
+use mathlib.Core.Path.{_≡_, sym, ap, _∙_}
+use mathlib.Core.List.{List, _++_}
+use native.Mathlib.Omega.{arith}
+use native.Mathlib.Decide.{decLt}
+use lib.IntN.{ℤ, pos}
+use lib.ListN.{length, getD, take, drop, replicate, getD-replicate, length-append}
+use lib.Seq.{length-take-le, getD-take, take-at}
+use Rattle.numbers.specs.Column.{column, at}
+use Rattle.numbers.proofs.Integers.{zarith}
+use Rattle.numbers.proofs.Columns.{column-length, column-at, column-past, column-ext, is-column}
+use Rattle.group.specs.Steps.{directionOf, nearerBy}
+use Rattle.group.specs.Group.{taken, step2All}
+use Rattle.group.specs.Asked.{lossAt, lossesOf, left, Bearable, Lost}
+use Rattle.group.proofs.Sides.{size-abs}
+use Rattle.group.proofs.Cuts.{loss-within}
+
+module _ (e : ℤ) (n1 : List ℤ) (class : List ℕ) where
+  pub losses-length : length (lossesOf e n1 class) ≡ length n1
+  unfolding lossesOf
+  losses-length = column-length (lossAt e n1 class) (length n1)
+
+  loss-at : (i : ℕ) → i < length n1 → getD (lossesOf e n1 class) i 0 ≡ lossAt e n1 class i
+  unfolding lossesOf
+  loss-at i l = column-at (lossAt e n1 class) (length n1) i 0 l
+
+  -- no unit loses more than a quantity, past the end too
+  pub losses-small : Bearable e n1 class → (i : ℕ) → getD (lossesOf e n1 class) i 0 ≤ 1000000
+  unfolding lossesOf
+  losses-small h i = go (decLt i (length n1))
+    where
+      go : Dec (i < length n1) → getD (lossesOf e n1 class) i 0 ≤ 1000000
+      go (yes l) =
+          omega (zarith, loss-at i l, loss-within e n1 class (h .borne) (h .classed) i, size-abs (directionOf e) (at n1 i), h .classed .small i)
+      go (no l) = omega (arith, column-past (lossAt e n1 class) (length n1) i 0 (omega arith))
+
+  pub step2-at : (i : ℕ) → i < length n1 → at (step2All e n1 class) i ≡ nearerBy (directionOf e) (at n1 i) (getD (lossesOf e n1 class) i 0)
+  unfolding step2All taken
+  step2-at i l =
+      column-at (λ j. nearerBy (directionOf e) (at n1 j) (lossAt e n1 class j)) (length n1) i (pos 0) l
+      ∙ ap (nearerBy (directionOf e) (at n1 i)) (sym (loss-at i l))
+
+  pub left-is : left (directionOf e) n1 (lossesOf e n1 class) ≡ step2All e n1 class
+  unfolding left step2All taken
+  left-is = column-ext _ _ (length n1) (λ i l. ap (nearerBy (directionOf e) (at n1 i)) (loss-at i l))
+
+  pub lost : {n2 : List ℤ} → Bearable e n1 class → length n2 ≡ length n1 → Lost n1 (lossesOf e n1 class) n2
+  lost h l = record { small = h .classed .small; losses-places = losses-length; losses-small = losses-small h; places = l }
+
+-- the first n places of a column of 64 zeros, lent to be written and lent again to be read
+abbrev zeros : List ℕ
+zeros = replicate 64 0
+
+module _ {n : ℕ} where
+  pub lent : n ≤ 64 → take n zeros ≡ column n (λ i. 0)
+  lent h = is-column (λ i. 0) 0 n (take n zeros) (length-take-le n zeros h) (λ i l. getD-take n zeros i 0 l ∙ getD-replicate 64 i 0 0 (omega arith))
+
+  module _ (l : List ℕ) (places : length l ≡ n) where
+    pub room : n ≤ length (l ++ drop n zeros)
+    room = omega (arith, length-append l (drop n zeros))
+
+    pub lent-again : take n (l ++ drop n zeros) ≡ l
+    lent-again = take-at l (drop n zeros) n places
