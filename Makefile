@@ -36,11 +36,12 @@ all: lib programs
 lib: $(LIBRARY)
 
 $(LIBRARY): $(CRATES)
-	rt staticlib desk
+	mkdir -p target
+	flock target/lock rt staticlib desk
 	cp target/staticlib/libdesk.a $@
 
 programs:
-	for name in $(PROGRAMS); do tests/built $$name || exit; done
+	for name in $(PROGRAMS); do tools/built $$name || exit; done
 
 install: install-library $(programs_here)
 

@@ -12,6 +12,7 @@
 static const char *sentence(int32_t number)
 {
     switch (number) {
+    /* tests/refusals */
     case FLEHWELLA_CUT_SHORT: return "the record is cut short; the place is the length at hand";
     case FLEHWELLA_KIND: return "a record of a kind that may not come there";
     case FLEHWELLA_QUARTERS: return "quarters of the day other than 92, 96 or 100";
@@ -24,6 +25,7 @@ static const char *sentence(int32_t number)
     case FLEHWELLA_POSITION_AGE: return "positions older than the limit, or made after the run";
     case FLEHWELLA_MARGIN_AGE: return "margins older than the limit, or made after the run";
     case FLEHWELLA_ROOM: return "the room lent is too small";
+    /* */
     default: return "a refusal that this call does not give";
     }
 }

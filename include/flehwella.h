@@ -40,8 +40,8 @@ extern "C" {
 #define FLEHWELLA_BLOCK_MAX 1674
 #define FLEHWELLA_RESULT_MAX 1307
 
-/* Every refusal of the house, by its number. flehwella_check gives 1 to 12: its block counts as the first of its day, so
- * that none comes before it (13), an end record is a kind that may not come (2, not 14), and it takes no columns (15). */
+/* tests/refusals */
+/* Every refusal of the house, by its number. flehwella_check gives 1 to 12. */
 enum flehwella_refusal {
     /* the record is cut short; the place is the length at hand */
     FLEHWELLA_CUT_SHORT = 1,
@@ -74,11 +74,13 @@ enum flehwella_refusal {
     /* columns of unequal length */
     FLEHWELLA_COLUMNS = 15
 };
+/* */
 
 /* Checks one block as the first of its day and writes its result into the room.
  *
  * `day` is a day record and `block` a group record with its units; bytes after either are not read. The day is judged
- * first, then the block; the first refused field decides, and a room that is too small is told last.
+ * first, then the block; the first refused field decides, and a room that is too small is told last. No refusal speaks of
+ * a block before this one or of the day's end.
  *
  * Gives back the length written, FLEHWELLA_RESULT_LENGTH(units), or minus the number of a refusal; never 0.
  *

@@ -1,11 +1,13 @@
 #!/usr/bin/env python3
-"""Writes crates/probe/stdin and stdout: a few frames of docs/PROBE.md, and the replies that document 01 gives.
+"""A few frames of docs/PROBE.md and the replies that document 01 gives: crates/probe/stdin and stdout.
 
-usage: tests/frames.py
+usage: tests/frames.py --write    writes the two files
+       tests/frames.py --check    tells whether they are as it would write them
 """
 
 import pathlib
 import struct
+import sys
 
 PROBE = pathlib.Path(__file__).resolve().parent.parent / "crates" / "probe"
 NOT_FITTING = b""
@@ -49,6 +51,21 @@ CASES = [
     (columns(*UNITS, [0, 0, 1])[:-1], b""),
 ]
 
+
+def main(words):
+    files = {PROBE / "stdin": b"".join(case[0] for case in CASES), PROBE / "stdout": b"".join(case[1] for case in CASES)}
+    if words == ["--write"]:
+        for path, content in files.items():
+            path.write_bytes(content)
+    elif words == ["--check"]:
+        stale = [path for path, content in files.items() if path.read_bytes() != content]
+        for path in stale:
+            print(f"crates/probe/{path.name} is not what tests/frames.py writes")
+        return 1 if stale else 0
+    else:
+        sys.exit(__doc__)
+    return 0
+
+
 if __name__ == "__main__":
-    (PROBE / "stdin").write_bytes(b"".join(case[0] for case in CASES))
-    (PROBE / "stdout").write_bytes(b"".join(case[1] for case in CASES))
+    sys.exit(main(sys.argv[1:]))

@@ -7,6 +7,15 @@
 #include <stdlib.h>
 #include <string.h>
 
+#ifdef __SANITIZE_ADDRESS__
+/* Looking for leaks takes seconds at each exit: it is asked for where it is wanted, by ASAN_OPTIONS=detect_leaks=1. */
+const char *__asan_default_options(void);
+const char *__asan_default_options(void)
+{
+    return "detect_leaks=0";
+}
+#endif
+
 static void stop(const char *why)
 {
     fprintf(stderr, "second: %s\n", why);
