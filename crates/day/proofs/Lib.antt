@@ -6,7 +6,6 @@ pub mod Read
 pub mod Units
 pub mod Passing
 pub mod Taking
-pub mod UnitsTaken
 pub mod ByKind
 pub mod Outcomes
 pub mod Beyond

@@ -1,20 +1,26 @@
--- What an offer that was taken was, and what it left: its reply is read back by the kind that came.
+-- What an offer that was taken was, and what it left: its reply is read back by what the record that came is to the day.
 use Prim.Native.Nat.{ℕ, _+_, _*_, _≤_}
 use mathlib.Core.Path.{_≡_, refl, sym, ap, _∙_}
 use mathlib.Core.Bool.{Bool, true, false}
 use mathlib.Core.List.{List, [], _++_}
-use borrow.Author.Tests.{leb-true, eqb-true, eqb-false}
-use lib.Dec.{eqb}
+use native.Mathlib.Omega.{arith}
+use borrow.Author.Tests.{leb-true}
 use lib.ListN.{length, take, drop}
 use lib.Seq.{take-at, drop-at}
 use Rattle.numbers.specs.Bytes.{byteAt}
 use Rattle.numbers.specs.Choice.{pick}
 use Rattle.terms.specs.Reply.{is}
 use Rattle.terms.proofs.Replies.{need-is, next-is}
-use Rattle.records.specs.Layouts.{groupKind, groupAt}
+use Rattle.records.specs.Layouts.{dayLength, groupLength, groupAt, endLength}
+use Rattle.records.specs.Reading.{unitPlace}
+use Rattle.writers.specs.Results.{resultLength}
+use Rattle.walk.specs.declared.table.Role.{Role}
+use Rattle.walk.specs.declared.table.Role.the-variants.{Opens, Block, Closes}
 use Rattle.walk.specs.declared.table.Head.{Head}
+use Rattle.walk.specs.Table.{roleOf, isBlock}
+use Rattle.walk.proofs.Coming.{is-block}
 use Rattle.day.specs.declared.value.Day.{Day}
-use Rattle.day.specs.declared.check.Block.{Block}
+use Rattle.day.specs.declared.check.Block as checked
 use Rattle.day.specs.declared.offer.Step.{Step}
 use Rattle.day.specs.declared.offer.Offered.the-variants as O
 use Rattle.day.specs.Days.{opened, counted, closed}
@@ -27,19 +33,19 @@ use Rattle.day.proofs.ByKind.{head-came, group-long, offer-block}
 
 -- a block that was taken
 pub record TakenBlock (day : Day) (s : List ℕ) (room : ℕ) (step : Step) : Type 0 where
-  pub long : 10 ≤ length s
-  pub fields : blockFieldsOf day s ≡ is (blockOf (groupAt s 0) (10 + 26 * blockCount s))
-  pub enough : 27 + 20 * blockCount s ≤ room
-  pub value : step ≡ record { used = 10 + 26 * blockCount s; written = 27 + 20 * blockCount s; day = counted day (blockKey s) }
+  pub long : groupLength ≤ length s
+  pub fields : blockFieldsOf day s ≡ is (blockOf (groupAt s 0) (unitPlace s (blockCount s)))
+  pub enough : resultLength (blockCount s) ≤ room
+  pub value : step ≡ record { used = unitPlace s (blockCount s); written = resultLength (blockCount s); day = counted day (blockKey s) }
 
 module _ (day : Day) (s : List ℕ) (room : ℕ) {step : Step} where
-  by-fields : 10 ≤ length s → {block : Block} → blockFieldsOf day s ≡ is block → block .written ≤ room
+  by-fields : groupLength ≤ length s → {block : checked.Block} → blockFieldsOf day s ≡ is block → block .written ≤ room
       → step ≡ record { used = block .used; written = block .written; day = counted day (block .key) } → TakenBlock day s room step
   by-fields long e h v =
-      let r = read day s e in
+      let r = read day s long e in
       record { long = long; fields = e ∙ ap is (r .value); enough = rw (r .value) at h; value = rw (r .value) at v }
 
-  from-block : 10 ≤ length s → blockTaken day s room ≡ is step → TakenBlock day s room step
+  from-block : groupLength ≤ length s → blockTaken day s room ≡ is step → TakenBlock day s room step
   unfolding blockTaken
   from-block long e =
       let a = next-is _ _ e in
@@ -47,15 +53,15 @@ module _ (day : Day) (s : List ℕ) (room : ℕ) {step : Step} where
       by-fields long (a .1 .0) (leb-true (a .0 .written) room (b .0)) (cc (b .1))
 
   module _ (e : offerOf day s room ≡ is step) where
-    head-taken : (head : Head) × ((headFor day s ≡ is head) × (taken day s room (head .kind) ≡ is step))
+    head-taken : (head : Head) × ((headFor day s ≡ is head) × (taken day s room (head .role) ≡ is step))
     unfolding offerOf
     head-taken = next-is _ _ e
 
-    -- the block of a taken offer that begins with 02h
-    pub taken-block : byteAt s 0 ≡ groupKind → TakenBlock day s room step
+    -- the block of a taken offer
+    pub taken-block : roleOf (byteAt s 0) ≡ Block → TakenBlock day s room step
     taken-block k =
         let a = head-taken in
-        let m : a .0 .kind ≡ 2 = sym (head-came day s (a .0) (a .1 .0) .first) ∙ k in
+        let m : a .0 .role ≡ Block = sym (head-came day s (a .0) (a .1 .0) .first) ∙ k in
         from-block (group-long day s (a .0) (a .1 .0) m) (sym (offer-block day s (a .0) (a .1 .0) m room) ∙ e)
 
     -- a day or an end writes nothing
@@ -63,35 +69,36 @@ module _ (day : Day) (s : List ℕ) (room : ℕ) {step : Step} where
     unfolding dayTaken
     day-none h =
         let a = next-is _ _ h in
-        let v : step ≡ record { used = 12; written = 0; day = opened (a .0) } = cc (a .1 .1) in
+        let v : step ≡ record { used = dayLength; written = 0; day = opened (a .0) } = cc (a .1 .1) in
         ap (λ (x : Step). x .written) v
 
     end-none : endTaken day s ≡ is step → step .written ≡ 0
     unfolding endTaken
     end-none h =
         let a = next-is _ _ h in
-        let v : step ≡ record { used = 5; written = 0; day = closed day } = cc (a .1 .1) in
+        let v : step ≡ record { used = endLength; written = 0; day = closed day } = cc (a .1 .1) in
         ap (λ (x : Step). x .written) v
 
-    none-written : (byteAt s 0 ≡ groupKind → ⊥) → step .written ≡ 0
+    none-written : isBlock (roleOf (byteAt s 0)) ≡ false → step .written ≡ 0
     none-written n =
         let a = head-taken in
-        let f = head-came day s (a .0) (a .1 .0) .first in
-        go (a .0 .kind) (eqb (a .0 .kind) 1) (eqb (a .0 .kind) 2) refl (λ k. n (f ∙ k)) (a .1 .1)
+        go (a .0 .role) (ap isBlock (sym (head-came day s (a .0) (a .1 .0) .first)) ∙ n) (a .1 .1)
       where
-        go : (kind : ℕ) (d g : Bool) → eqb kind 2 ≡ g → (kind ≡ 2 → ⊥)
-            → pick d (dayTaken s) (pick g (blockTaken day s room) (endTaken day s)) ≡ is step → step .written ≡ 0
-        go kind true g q n h = day-none h
-        go kind false true q n h = absurd (n (eqb-true kind 2 q))
-        go kind false false q n h = end-none h
+        go : (role : Role) → isBlock role ≡ false → taken day s room role ≡ is step → step .written ≡ 0
+        go Opens n h = day-none h
+        go Block n h =
+            let z : _≡_ {A = ℕ} 0 1 = cc in
+            absurd (omega arith)
+        go Closes n h = end-none h
 
     -- what was written is as long as the reply tells
     pub written-length : length (writtenOf s) ≡ step .written
-    written-length = go (eqb (byteAt s 0) groupKind) refl
+    written-length = go (isBlock (roleOf (byteAt s 0))) refl
       where
-        go : (b : Bool) → eqb (byteAt s 0) groupKind ≡ b → length (pick b (blockResult s) []) ≡ step .written
-        go true q = result-length s (blockKey s) (blockCount s) ∙ sym (ap (λ (x : Step). x .written) (taken-block (eqb-true _ _ q) .value))
-        go false q = sym (none-written (eqb-false _ _ q))
+        go : (b : Bool) → isBlock (roleOf (byteAt s 0)) ≡ b → length (pick b (blockResult s) []) ≡ step .written
+        go true q =
+            result-length s (blockKey s) (blockCount s) ∙ sym (ap (λ (x : Step). x .written) (taken-block (is-block (roleOf (byteAt s 0)) q) .value))
+        go false q = sym (none-written q)
 
 -- the room after a taken offer
 module _ (day : Day) (s entry : List ℕ) {step : Step} {exit : List ℕ} (o : Offers day s entry (O.Taken step) exit) where

@@ -30,7 +30,7 @@ pub another-party : (day : List ℕ) (blocks others : List Part) (end other-end 
 another-party day blocks others end other-end a b s x y m n = block-result (part s x) a m ∙ sym (block-result (part s y) b n)
 
 -- Refusal 13 may depend on other blocks, and no other check of a block does.
-pub only-13 : (a b : Day) (s : List ℕ) → a .«record» ≡ b .«record» → follows (a .last) (blockKey s) ≡ follows (b .last) (blockKey s)
+pub block-only-13 : (a b : Day) (s : List ℕ) → a .«record» ≡ b .«record» → follows (a .last) (blockKey s) ≡ follows (b .last) (blockKey s)
     → blockFieldsOf a s ≡ blockFieldsOf b s
 unfolding blockFieldsOf groupFieldsOf
-only-13 a b s d f = rw (d, f)
+block-only-13 a b s d f = rw (d, f)

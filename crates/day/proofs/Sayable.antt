@@ -2,8 +2,6 @@
 use Prim.Native.Nat.{ℕ, zero, suc, _+_}
 use mathlib.Core.Bool.{Bool, true, false}
 use mathlib.Core.List.{List}
-use lib.Dec.{eqb}
-use Rattle.numbers.specs.Choice.{pick}
 use Rattle.terms.specs.Reply.{Reply, is, need, next}
 use Rattle.terms.specs.Refusals.{numberOf, whyOf, refusal, passed}
 use Rattle.terms.specs.declared.refusal.Why.{Why}
@@ -14,8 +12,11 @@ use Rattle.terms.specs.declared.refusal.Checked.{Checked}
 use Rattle.terms.specs.declared.refusal.Checked.the-variants.{Fine, Faulty}
 use Rattle.records.specs.declared.day.DayRecord.{DayRecord}
 use Rattle.records.specs.declared.key.Last.{Last}
+use Rattle.records.specs.Layouts.{unitKind, unitLength}
 use Rattle.records.specs.Reading.{headOf, dayFieldsOf, groupFieldsOf, endFieldsOf, unitFieldsOf, unitOf, unitsOf}
 use Rattle.walk.specs.declared.table.State.{State}
+use Rattle.walk.specs.declared.table.Role.{Role}
+use Rattle.walk.specs.declared.table.Role.the-variants.{Opens, Block, Closes}
 use Rattle.walk.specs.Table.{headIn}
 use Rattle.day.specs.declared.value.Day.{Day}
 use Rattle.day.specs.Checking.{blockFieldsOf}
@@ -55,12 +56,12 @@ module _ (s : List ℕ) where
 
   unit-of : (at floor run limit : ℕ) → Sayable (unitOf s at floor run limit)
   unfolding unitOf unitFieldsOf
-  unit-of at floor run limit = say-next (head-of at 3 26) (λ _. say-passed _ _ (value _))
+  unit-of at floor run limit = say-next (head-of at unitKind unitLength) (λ _. say-passed _ _ (value _))
 
   units-of : (at floor run limit left : ℕ) → Sayable (unitsOf s at floor run limit left)
   unfolding unitsOf
   units-of at floor run limit zero = value at
-  units-of at floor run limit (suc left) = say-next (unit-of at floor run limit) (λ u. units-of (at + 26) (u .number + 1) run limit left)
+  units-of at floor run limit (suc left) = say-next (unit-of at floor run limit) (λ u. units-of (at + unitLength) (u .number + 1) run limit left)
 
   module _ (day : Day) where
     head-for : Sayable (headFor day s)
@@ -83,14 +84,11 @@ module _ (s : List ℕ) where
     unfolding endTaken endFieldsOf
     end-taken = say-next (say-need _ W.EndCount _ (value _)) (λ e. value _)
 
-    by-kind : (room kind : ℕ) → Sayable (taken day s room kind)
-    by-kind room kind = go (eqb kind 1) (eqb kind 2)
-      where
-        go : (d g : Bool) → Sayable (pick d (dayTaken s) (pick g (blockTaken day s room) (endTaken day s)))
-        go true g = day-taken
-        go false true = block-taken room
-        go false false = end-taken
+    by-role : (room : ℕ) (role : Role) → Sayable (taken day s room role)
+    by-role room Opens = day-taken
+    by-role room Block = block-taken room
+    by-role room Closes = end-taken
 
     pub offer-sayable : (room : ℕ) → Sayable (offerOf day s room)
     unfolding offerOf
-    offer-sayable room = say-next head-for (λ h. by-kind room (h .kind))
+    offer-sayable room = say-next head-for (λ h. by-role room (h .role))

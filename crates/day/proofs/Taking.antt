@@ -1,5 +1,5 @@
 -- The two ends of an offer: what was refused left the day and the room as they were, and what was taken wrote its result at the front of the room.
-use Prim.Native.Nat.{ℕ, _+_, _*_}
+use Prim.Native.Nat.{ℕ}
 use mathlib.Core.Path.{_≡_, refl, sym, _∙_}
 use mathlib.Core.List.{List, []}
 use native.Mathlib.Omega.{arith}
@@ -12,10 +12,10 @@ use Rattle.terms.specs.declared.refusal.Refusal.{Refusal}
 use Rattle.records.specs.declared.key.Key.{Key}
 use Rattle.records.specs.declared.group_result.GroupResult.{GroupResult}
 use Rattle.records.specs.Reading.{dayFieldsOf, endFieldsOf}
-use Rattle.records.specs.Decoding.{numbersIn, implicitsIn}
+use Rattle.records.specs.Decoding.{numbersIn, takenIn}
 use Rattle.group.specs.Columns.{sumsOf}
-use Rattle.records.specs.Layouts.{groupResultBytes}
-use Rattle.writers.specs.Results.{Results, resultBytes, unitResultsBytes}
+use Rattle.records.specs.Layouts.{dayLength, endLength, groupResultBytes}
+use Rattle.writers.specs.Results.{Results, resultLength, resultBytes, unitResultsBytes}
 use Rattle.writers.proofs.Lengths.{length-group-result, length-results}
 use Rattle.day.specs.declared.value.Day.{Day}
 use Rattle.day.specs.declared.offer.Step.{Step}
@@ -51,21 +51,21 @@ unwritten (refused n p) f room h = refl
 
 pub day-room : (s room : List ℕ) → room ≡ roomAfter (dayTaken s) [] room
 unfolding dayTaken
-day-room s room = unwritten (dayFieldsOf s) (λ d. record { used = 12; written = 0; day = opened d }) room (λ _. refl)
+day-room s room = unwritten (dayFieldsOf s) (λ d. record { used = dayLength; written = 0; day = opened d }) room (λ _. refl)
 
 pub end-room : (day : Day) (s room : List ℕ) → room ≡ roomAfter (endTaken day s) [] room
 unfolding endTaken
-end-room day s room = unwritten (endFieldsOf s (day .groups)) (λ _. record { used = 5; written = 0; day = closed day }) room (λ _. refl)
+end-room day s room = unwritten (endFieldsOf s (day .groups)) (λ _. record { used = endLength; written = 0; day = closed day }) room (λ _. refl)
 
 -- the length of a block's result
-length-result : (g : GroupResult) (r : Results) → length (resultBytes g r) ≡ 27 + 20 * g .count
+length-result : (g : GroupResult) (r : Results) → length (resultBytes g r) ≡ resultLength (g .count)
 unfolding resultBytes
 length-result g r =
     let a = length-group-result g in
     let b = length-results r (g .count) in
     length-append (groupResultBytes g) (unitResultsBytes r (g .count)) ∙ omega arith
 
-pub result-length : (s : List ℕ) (key : Key) (count : ℕ) → length (resultIn s key count) ≡ 27 + 20 * count
+pub result-length : (s : List ℕ) (key : Key) (count : ℕ) → length (resultIn s key count) ≡ resultLength count
 unfolding resultIn groupResult
 result-length s key count =
-    length-result (groupResult key count (sumsOf (groupIn s count))) (unitResults (numbersIn s count) (implicitsIn s count) (groupIn s count))
+    length-result (groupResult key count (sumsOf (groupIn s count))) (unitResults (numbersIn s count) (takenIn s count) (groupIn s count))

@@ -4,7 +4,7 @@ use mathlib.Core.Path.{_≡_, sym, ap, ap₂, _∙_}
 use mathlib.Core.List.{List}
 use Rattle.terms.specs.Reply.{Reply}
 use Rattle.terms.proofs.Replies.{never}
-use Rattle.terms.proofs.Same.{same-refusal}
+use Rattle.terms.proofs.Same.{refusal-same}
 use Rattle.day.specs.declared.value.Day.{Day}
 use Rattle.day.specs.declared.check.BlockAnswer.{BlockAnswer}
 use Rattle.day.specs.declared.check.BlockAnswer.the-variants as B
@@ -14,20 +14,20 @@ use Rattle.day.specs.declared.offer.Offered.the-variants as O
 use Rattle.day.specs.Checking.{blockReply, checkOf}
 use Rattle.day.specs.Offers.{offerReply, dayBack, Offering, Offers}
 
-pub same-block : (a b : BlockAnswer) → blockReply a ≡ blockReply b → a ≡ b
-same-block (B.Is x) (B.Is y) e = ap B.Is (cc)
-same-block (B.Is x) (B.Refused q) e = never (sym e)
-same-block (B.Refused r) (B.Is y) e = never e
-same-block (B.Refused r) (B.Refused q) e = ap B.Refused (same-refusal r q e)
+pub block-answer-same : (a b : BlockAnswer) → blockReply a ≡ blockReply b → a ≡ b
+block-answer-same (B.Is x) (B.Is y) e = ap B.Is (cc)
+block-answer-same (B.Is x) (B.Refused q) e = never (sym e)
+block-answer-same (B.Refused r) (B.Is y) e = never e
+block-answer-same (B.Refused r) (B.Refused q) e = ap B.Refused (refusal-same r q e)
 
-pub same-offered : (a b : Offered) → offerReply a ≡ offerReply b → dayBack a ≡ dayBack b → a ≡ b
-same-offered (O.Taken x) (O.Taken y) e d = ap O.Taken (cc)
-same-offered (O.Taken x) (O.Refused q day) e d = never (sym e)
-same-offered (O.Refused r day) (O.Taken y) e d = never e
-same-offered (O.Refused r day) (O.Refused q other) e d = ap₂ O.Refused (same-refusal r q e) d
+pub offered-same : (a b : Offered) → offerReply a ≡ offerReply b → dayBack a ≡ dayBack b → a ≡ b
+offered-same (O.Taken x) (O.Taken y) e d = ap O.Taken (cc)
+offered-same (O.Taken x) (O.Refused q day) e d = never (sym e)
+offered-same (O.Refused r day) (O.Taken y) e d = never e
+offered-same (O.Refused r day) (O.Refused q other) e d = ap₂ O.Refused (refusal-same r q e) d
 
 pub check-block-unique : (day : Day) (s : List ℕ) (a b : BlockAnswer) → blockReply a ≡ checkOf day s → blockReply b ≡ checkOf day s → a ≡ b
-check-block-unique day s a b p q = same-block a b (p ∙ sym q)
+check-block-unique day s a b p q = block-answer-same a b (p ∙ sym q)
 
 -- two outcomes of one call
 pub record Same (r q : Offered) (x y : List ℕ) : Type 0 where
@@ -38,7 +38,7 @@ pub offering-unique : (right : Reply Step) (bytes : List ℕ) (day : Day) (entry
     → Offering right bytes day entry r x → Offering right bytes day entry q y → Same r q x y
 offering-unique right bytes day entry r q a b =
     record {
-      reply = same-offered r q (a .gave .replied ∙ sym (b .gave .replied)) (a .gave .returned ∙ sym (b .gave .returned));
+      reply = offered-same r q (a .gave .replied ∙ sym (b .gave .replied)) (a .gave .returned ∙ sym (b .gave .returned));
       room = a .room ∙ sym (b .room);
     }
 

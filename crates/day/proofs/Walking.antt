@@ -15,27 +15,30 @@ use Rattle.records.specs.declared.day.DayRecord.{DayRecord}
 use Rattle.records.specs.declared.group.GroupRecord.{GroupRecord}
 use Rattle.records.specs.declared.unit.UnitRecord.{UnitRecord}
 use Rattle.records.specs.declared.key.Last.{Last}
-use Rattle.records.specs.Layouts.{groupAt}
-use Rattle.records.specs.Reading.{headOf, unitCount, dayFieldsOf, groupFieldsOf, endFieldsOf, unitOf, unitsOf}
-use Rattle.records.proofs.Heads.{headed}
+use Rattle.records.specs.Layouts.{dayLength, groupLength, groupCount, groupAt, unitKind, unitLength, endLength}
+use Rattle.terms.specs.Checks.{unitCount}
+use Rattle.records.specs.Reading.{headOf, unitHeadOf, dayFieldsOf, groupFieldsOf, endFieldsOf, unitOf, unitsOf}
+use Rattle.records.proofs.Heads as heads
 use Rattle.walk.specs.declared.table.State.{State}
 use Rattle.walk.specs.declared.table.State.the-variants.{Fresh, Open, Closed}
-use Rattle.walk.specs.Table.{rowOf}
-use Rattle.walk.specs.Walk.{headsOf, blockOf, stateAfter, walkFrom, done}
-use Rattle.walk.specs.Extents.{from, Blocks, block, ending, DayOf, opening}
+use Rattle.walk.specs.declared.table.Role.{Role}
+use Rattle.walk.specs.declared.table.Role.the-variants.{Opens, Block, Closes}
 use Rattle.walk.specs.declared.table.Head.{Head}
-use Rattle.walk.proofs.Coming.{Coming, theDay, aGroup, theEnd}
+use Rattle.walk.specs.Table.{roleOf, rowOf, stateAfter, headIn, Coming, theDay, aGroup, theEnd, lengthAs}
+use Rattle.walk.specs.Walk.{headsOf, blockEndOf, walkFrom, done}
+use Rattle.walk.specs.Extents.{from, headed, Blocks, block, ending, DayOf, opening}
+use Rattle.walk.proofs.Coming.{came, head-moved}
 use Rattle.walk.proofs.UnitHeads.{head-end}
-use Rattle.walk.proofs.Visits.{visits}
+use Rattle.walk.proofs.Visits.{walk-visits}
 use Rattle.day.specs.declared.value.Day.{Day}
-use Rattle.day.specs.declared.check.Block.{Block}
+use Rattle.day.specs.declared.check.Block as checked
 use Rattle.day.specs.Days.{fresh, opened, closed}
 use Rattle.day.specs.Checking as Checking
 use Rattle.day.specs.Checking.{blockFieldsOf}
 use Rattle.day.specs.declared.offer.Step.{Step}
 use Rattle.day.specs.Offers.{headFor, dayTaken, endTaken, offerOf}
 use Rattle.day.specs.WholeDays.{Part, part, joined, extentsFrom, Run, none, more, AcceptedDay}
-use Rattle.day.proofs.ByKind.{head-came, day-long, offer-day, end-long, offer-end}
+use Rattle.day.proofs.ByKind.{head-read, head-came, offer-day, offer-end}
 use Rattle.day.proofs.Outcomes.{taken-block, reply}
 use Rattle.day.proofs.Read.{group-passed}
 
@@ -53,17 +56,17 @@ module _ (t : List ℕ) (at : ℕ) (s : List ℕ) (a : Stand t at s) where
   head-there : (i kind len : ℕ) {end : ℕ} → 0 < len → headOf s i kind len ≡ is end → headOf t (at + i) kind len ≡ is (at + end)
   unfolding headOf need
   head-there i kind len {end} p e =
-      let m = headed s i kind len e in
+      let m = heads.headed s i kind len e in
       let q = head-end s i kind len e in
       let b = a .same i (omega (arith, m .long)) ∙ m .first in
       let z : at + i + len ≡ at + end = omega arith in
       simp (b, eq-eqb kind kind refl, lt-ltb (at + i) (length t) (omega (arith, a .fits, m .long)), z, le-leb (at + end) (length t) (omega (arith, a .fits, m .long)))
 
-  unit-there : (from floor run limit : ℕ) {u : UnitRecord} → unitOf s from floor run limit ≡ is u → headOf t (at + from) 3 26 ≡ is (at + (from + 26))
+  unit-there : (from floor run limit : ℕ) {u : UnitRecord} → unitOf s from floor run limit ≡ is u → unitHeadOf t (at + from) ≡ is (at + (from + unitLength))
   unfolding unitOf
   unit-there from floor run limit e =
       let h = next-is _ _ e in
-      head-there from 3 26 (omega arith) (h .1 .0) ∙ ap (λ (n : ℕ). is (at + n)) (sym (head-end s from 3 26 (h .1 .0)))
+      head-there from unitKind unitLength (omega arith) (h .1 .0) ∙ ap (λ (n : ℕ). is (at + n)) (sym (head-end s from unitKind unitLength (h .1 .0)))
 
   units-there : (from floor run limit count : ℕ) {end : ℕ} → unitsOf s from floor run limit count ≡ is end → headsOf t (at + from) count ≡ is (at + end)
   unfolding unitsOf headsOf next
@@ -71,31 +74,33 @@ module _ (t : List ℕ) (at : ℕ) (s : List ℕ) (a : Stand t at s) where
       let q : from ≡ end = cc e in
       rw q
   units-there from floor run limit (suc count) {end} e =
-      let u = next-is (unitOf s from floor run limit) (λ u. unitsOf s (from + 26) (u .number + 1) run limit count) e in
-      rw (unit-there from floor run limit (u .1 .0)) (units-there (from + 26) (u .0 .number + 1) run limit count (u .1 .1))
+      let u = next-is (unitOf s from floor run limit) (λ u. unitsOf s (from + unitLength) (u .number + 1) run limit count) e in
+      rw (unit-there from floor run limit (u .1 .0)) (units-there (from + unitLength) (u .0 .number + 1) run limit count (u .1 .1))
+
+  -- a record that comes alone comes there
+  record-there : (state : State) {h : Head} → headIn s 0 state ≡ is h → headIn t at state ≡ headed (h .role) (at + h .end)
+  record-there state {h} e =
+      let m = came s 0 state h e in
+      let b : byteAt t at ≡ byteAt s 0 = ap (byteAt t) (sym (add-zero at)) ∙ a .same 0 (omega (arith, m .past, m .long)) in
+      head-moved s t 0 at (h .end) state e (omega arith) b (omega (arith, a .fits, m .long))
 
   -- a block that passed its checks is a block to the walk
-  module _ (day : Day) (k : byteAt s 0 ≡ 2) (long : 10 ≤ length s) where
-    group-there : headOf t at 2 10 ≡ is (at + 10)
-    unfolding headOf need
-    group-there =
-        let b = ap (byteAt t) (sym (add-zero at)) ∙ a .same 0 (omega arith) ∙ k in
-        simp (b, lt-ltb at (length t) (omega (arith, a .fits)), le-leb (at + 10) (length t) (omega (arith, a .fits)))
-
+  module _ (day : Day) (long : groupLength ≤ length s) where
     count-there : groupAt t at .count ≡ groupAt s 0 .count
     unfolding groupAt
-    count-there = a .same 5 (omega arith)
+    count-there = a .same (groupCount .place) (omega arith)
 
-    block-there : {x : Block} → blockFieldsOf day s ≡ is x → blockOf t at ≡ is (at + x .used)
-    unfolding blockFieldsOf blockOf need
+    block-there : {x : checked.Block} → blockFieldsOf day s ≡ is x → blockEndOf t at ≡ is (at + x .used)
+    unfolding blockFieldsOf blockEndOf need
     block-there {x} e =
         let g = next-is (groupFieldsOf s (day .«record») (day .last)) _ e in
         let p = group-passed s (day .«record») (day .last) (g .1 .0) in
-        let u = next-is (unitsOf s 10 0 (day .«record» .run) (day .«record» .«margin_limit») (g .0 .count)) (λ end. is (Checking.blockOf (g .0) end)) (g .1 .1) in
+        let u =
+        next-is (unitsOf s groupLength 0 (day .«record» .run) (day .«record» .«margin_limit») (g .0 .count)) (λ end. is (Checking.blockOf (g .0) end)) (g .1 .1) in
         let w : x ≡ Checking.blockOf (g .0) (u .0) = cc (u .1 .1) in
-        let v : x .used ≡ u .0 = ap (λ (y : Block). y .used) w in
-        let h : headsOf t (at + 10) (groupAt s 0 .count) ≡ is (at + u .0) =
-        ap (λ (y : GroupRecord). headsOf t (at + 10) (y .count)) (sym (p .value)) ∙ units-there 10 0 _ _ _ (u .1 .0) in
+        let v : x .used ≡ u .0 = ap (λ (y : checked.Block). y .used) w in
+        let h : headsOf t (at + groupLength) (groupAt s 0 .count) ≡ is (at + u .0) =
+        ap (λ (y : GroupRecord). headsOf t (at + groupLength) (y .count)) (sym (p .value)) ∙ units-there groupLength 0 _ _ _ (u .1 .0) in
         rw (count-there, group-counted s (day .«record») (day .last) (g .1 .0), v) h
 
 -- the front part of the rest of a day stands where the rest begins
@@ -108,48 +113,54 @@ stand pre s post =
 
 -- what a day of a state takes, with all its bytes
 data Takes (s : List ℕ) : State → State → Type 0 where
-  the-day : length s ≡ 12 → headOf s 0 1 12 ≡ is 12 → byteAt s 0 ≡ 1 → Takes s Fresh Open
-  a-block : (day : Day) {x : Block} → byteAt s 0 ≡ 2 → 10 ≤ length s → blockFieldsOf day s ≡ is x → x .used ≡ length s → Takes s Open Open
-  the-end : length s ≡ 5 → headOf s 0 15 5 ≡ is 5 → byteAt s 0 ≡ 15 → Takes s Open Closed
+  the-day : headIn s 0 Fresh ≡ headed Opens (length s) → Takes s Fresh Open
+  a-block : (day : Day) (units : ℕ) {x : checked.Block} → headIn s 0 Open ≡ headed Block units → groupLength ≤ length s → blockFieldsOf day s ≡ is x → x .used ≡ length s
+      → Takes s Open Open
+  the-end : headIn s 0 Open ≡ headed Closes (length s) → Takes s Open Closed
 
-module _ (day : Day) (s : List ℕ) (room : ℕ) {step : Step} where
-  day-takes : day .state ≡ Fresh → byteAt s 0 ≡ 1 → 12 ≤ length s → dayTaken s ≡ is step → step .used ≡ length s → Takes s (day .state) (step .day .state)
-  unfolding dayTaken headOf need
-  day-takes p k l e u =
-      let a = next-is (dayFieldsOf s) _ e in
-      let v : step ≡ record { used = 12; written = 0; day = opened (a .0) } = cc (a .1 .1) in
-      let n : length s ≡ 12 = sym u ∙ ap (λ (x : Step). x .used) v in
-      rw (p, v) (the-day n (simp (k, n)) k)
+module _ (day : Day) (s : List ℕ) (room : ℕ) {step : Step} (e : offerOf day s room ≡ is step) (u : step .used ≡ length s) (head : Head) (h : headFor day s ≡ is head) where
+  -- the head that came, in the state and as what it came
+  head-as : (state : State) (role : Role) (end : ℕ) → day .state ≡ state → head .role ≡ role → head .end ≡ end → headIn s 0 state ≡ headed role end
+  head-as state role end p q n = rw (p, q, n) at (head-read day s head h)
 
-  end-takes : day .state ≡ Open → byteAt s 0 ≡ 15 → 5 ≤ length s → endTaken day s ≡ is step → step .used ≡ length s → Takes s (day .state) (step .day .state)
-  unfolding endTaken headOf need
-  end-takes p k l e u =
-      let a = next-is (endFieldsOf s (day .groups)) _ e in
-      let v : step ≡ record { used = 5; written = 0; day = closed day } = cc (a .1 .1) in
-      let n : length s ≡ 5 = sym u ∙ ap (λ (x : Step). x .used) v in
-      rw (p, v) (the-end n (simp (k, n)) k)
+  ends-as : (role : Role) → head .role ≡ role → head .end ≡ lengthAs role
+  ends-as role q =
+      let m : head .end ≡ 0 + lengthAs role = rw q at (head-came day s head h .end) in
+      omega arith
 
-  block-takes : day .state ≡ Open → byteAt s 0 ≡ 2 → offerOf day s room ≡ is step → step .used ≡ length s → Takes s (day .state) (step .day .state)
-  block-takes p k e u =
-      let b = taken-block day s room e k in
+  day-takes : day .state ≡ Fresh → head .role ≡ Opens → Takes s (day .state) (step .day .state)
+  unfolding dayTaken
+  day-takes p q =
+      let a = next-is (dayFieldsOf s) _ (sym (offer-day day s head h q room) ∙ e) in
+      let v : step ≡ record { used = dayLength; written = 0; day = opened (a .0) } = cc (a .1 .1) in
+      let n : length s ≡ dayLength = sym u ∙ ap (λ (x : Step). x .used) v in
+      rw (p, v) (the-day (head-as Fresh Opens (length s) p q (ends-as Opens q ∙ sym n)))
+
+  end-takes : day .state ≡ Open → head .role ≡ Closes → Takes s (day .state) (step .day .state)
+  unfolding endTaken
+  end-takes p q =
+      let a = next-is (endFieldsOf s (day .groups)) _ (sym (offer-end day s head h q room) ∙ e) in
+      let v : step ≡ record { used = endLength; written = 0; day = closed day } = cc (a .1 .1) in
+      let n : length s ≡ endLength = sym u ∙ ap (λ (x : Step). x .used) v in
+      rw (p, v) (the-end (head-as Open Closes (length s) p q (ends-as Closes q ∙ sym n)))
+
+  block-takes : day .state ≡ Open → head .role ≡ Block → Takes s (day .state) (step .day .state)
+  block-takes p q =
+      let b = taken-block day s room e (head-came day s head h .first ∙ q) in
       let n = ap (λ (x : Step). x .used) (b .value) in
       let m : step .day .state ≡ Open = ap (λ (x : Step). x .day .state) (b .value) ∙ p in
-      rw (p, m) (a-block day k (b .long) (b .fields) (sym n ∙ u))
+      rw (p, m) (a-block day (head .end) (head-as Open Block (head .end) p q refl) (b .long) (b .fields) (sym n ∙ u))
 
-  takes : offerOf day s room ≡ is step → step .used ≡ length s → Takes s (day .state) (step .day .state)
-  unfolding offerOf
-  takes e u =
-      let x = next-is (headFor day s) _ e in
-      let m = head-came day s (x .0) (x .1 .0) in
-      go (x .0) (x .1 .0) (m .first) (m .which)
-    where
-      go : (head : Head) (h : headFor day s ≡ is head) → byteAt s 0 ≡ head .kind → Coming (day .state) (head .kind) → Takes s (day .state) (step .day .state)
-      go head h f (theDay p q) = day-takes p (f ∙ q) (day-long day s head h q) (sym (offer-day day s head h q room) ∙ e) u
-      go head h f (aGroup p q) = block-takes p (f ∙ q) e u
-      go head h f (theEnd p q) =
-          let i : head .kind ≡ 1 → ⊥ = λ z. omega arith in
-          let j : head .kind ≡ 2 → ⊥ = λ z. omega arith in
-          end-takes p (f ∙ q) (end-long day s head h i j) (sym (offer-end day s head h i j room) ∙ e) u
+  by-role : Coming (day .state) (head .role) → Takes s (day .state) (step .day .state)
+  by-role (theDay p q) = day-takes p q
+  by-role (aGroup p q) = block-takes p q
+  by-role (theEnd p q) = end-takes p q
+
+takes : (day : Day) (s : List ℕ) (room : ℕ) {step : Step} → offerOf day s room ≡ is step → step .used ≡ length s → Takes s (day .state) (step .day .state)
+unfolding offerOf
+takes day s room e u =
+    let x = next-is (headFor day s) _ e in
+    by-role day s room e u (x .0) (x .1 .0) (head-came day s (x .0) (x .1 .0) .which)
 
 -- a closed day takes nothing
 closed-none : {day left : Day} {parts : List Part} → Run day parts left → day .state ≡ Closed → parts ≡ []
@@ -157,9 +168,9 @@ closed-none none p = refl
 closed-none {day} (more {s = s} {entry = entry} o u r) p = go (takes day s (length entry) (reply day s entry o) u) p
   where
     go : {a b : State} {P : Type 0} → Takes s a b → a ≡ Closed → P
-    go (the-day l h k) q = absurd (omega (arith, ap rowOf q))
-    go (a-block d k l e w) q = absurd (omega (arith, ap rowOf q))
-    go (the-end l h k) q = absurd (omega (arith, ap rowOf q))
+    go (the-day h) q = absurd (omega (arith, ap rowOf q))
+    go (a-block d n h l e w) q = absurd (omega (arith, ap rowOf q))
+    go (the-end h) q = absurd (omega (arith, ap rowOf q))
 
 -- the rest of an open day that is closed at last
 blocks-walked : {day left : Day} {parts : List Part} (pre : List ℕ) → Run day parts left → day .state ≡ Open → left .state ≡ Closed
@@ -171,20 +182,18 @@ blocks-walked {day} pre (more {s = s} {entry = entry} {step = step} {rest = rest
     go : {a b : State} → Takes s a b → a ≡ Open → step .day .state ≡ b
         → (step .day .state ≡ Open → Blocks ((pre ++ s) ++ joined rest) (length (pre ++ s)) (extentsFrom (length (pre ++ s)) rest))
         → (step .day .state ≡ Closed → rest ≡ [])
-        → Blocks (pre ++ (s ++ joined rest)) (length pre) (from (length pre) (length pre + length s) (stateAfter (byteAt s 0)) ∷ extentsFrom (length pre + length s) rest)
-    go (the-day l h k) x y f g = absurd (omega (arith, ap rowOf x))
-    go (a-block d k l e w) x y f g =
+        → Blocks (pre ++ (s ++ joined rest)) (length pre) (from (length pre) (length pre + length s) (stateAfter (roleOf (byteAt s 0))) ∷ extentsFrom (length pre + length s) rest)
+    go (the-day h) x y f g = absurd (omega (arith, ap rowOf x))
+    go (a-block d n h l e w) x y f g =
         let z = stand pre s (joined rest) in
         let m : Blocks (pre ++ (s ++ joined rest)) (length pre + length s) (extentsFrom (length pre + length s) rest) =
         rw (append-assoc pre s (joined rest), length-append pre s) at (f y) in
-        let b = rw w at (block-there _ _ s z d k l e) in
-        rw k (block (length pre) (length pre + length s) (extentsFrom (length pre + length s) rest) (group-there _ _ s z d k l) b m)
-    go (the-end l h k) x y f g =
+        let b = rw w at (block-there _ _ s z d l e) in
+        rw (came s 0 Open _ h .first) (block (length pre) (length pre + n) (length pre + length s) (extentsFrom (length pre + length s) rest) (record-there _ _ s z Open h) b m)
+    go (the-end h) x y f g =
         let n : length (pre ++ (s ++ [])) ≡ length pre + length s = length-append pre (s ++ []) ∙ ap (λ (v : List ℕ). length pre + length v) (append-nil s) in
-        let z = head-there _ _ s (stand pre s []) 0 15 5 (omega arith) h in
-        let e : headOf (pre ++ (s ++ [])) (length pre) 15 5 ≡ is (length (pre ++ (s ++ []))) =
-        ap (λ (i : ℕ). headOf (pre ++ (s ++ [])) i 15 5) (sym (add-zero (length pre))) ∙ z ∙ ap is (omega arith) in
-        rw (g y, k, ← n) (ending (length pre) e)
+        let z = record-there _ _ s (stand pre s []) Open h ∙ ap (headed Closes) (sym n) in
+        rw (g y, came s 0 Open _ h .first, ← n) (ending (length pre) z)
 
 -- A run of parts from a fresh day to a closed one is a day to the walk.
 day-walked : {parts : List Part} {left : Day} → Run fresh parts left → left .state ≡ Closed → DayOf (joined parts) (extentsFrom 0 parts)
@@ -194,15 +203,15 @@ day-walked (more {s = s} {entry = entry} {step = step} {rest = rest} o u r) q =
   where
     go : {a b : State} → Takes s a b → a ≡ Fresh → step .day .state ≡ b
         → (step .day .state ≡ Open → Blocks (s ++ joined rest) (length s) (extentsFrom (length s) rest))
-        → DayOf (s ++ joined rest) (from 0 (0 + length s) (stateAfter (byteAt s 0)) ∷ extentsFrom (0 + length s) rest)
-    go (the-day l h k) x y f =
-        let e = head-there _ _ s (stand [] s (joined rest)) 0 1 12 (omega arith) h in
-        let m : Blocks (s ++ joined rest) 12 (extentsFrom 12 rest) = rw l at (f y) in
-        rw (l, k) (opening (extentsFrom 12 rest) e m)
-    go (a-block d k l e w) x y f = absurd (omega (arith, ap rowOf x))
-    go (the-end l h k) x y f = absurd (omega (arith, ap rowOf x))
+        → DayOf (s ++ joined rest) (from 0 (0 + length s) (stateAfter (roleOf (byteAt s 0))) ∷ extentsFrom (0 + length s) rest)
+    go (the-day h) x y f =
+        let z : 0 + length s ≡ length s = omega arith in
+        let e : headIn (s ++ joined rest) 0 Fresh ≡ headed Opens (length s) = record-there _ _ s (stand [] s (joined rest)) Fresh h ∙ ap (headed Opens) z in
+        rw (z, came s 0 Fresh _ h .first) (opening (length s) (extentsFrom (length s) rest) e (f y))
+    go (a-block d n h l e w) x y f = absurd (omega (arith, ap rowOf x))
+    go (the-end h) x y f = absurd (omega (arith, ap rowOf x))
 
 -- The walk over an accepted day visits each of its parts, and nothing else.
-pub walked : {day end : List ℕ} {blocks : List Part} → AcceptedDay day blocks end → let parts = part day [] ∷ blocks ++ (part end [] ∷ []) in
+pub accepted-walked : {day end : List ℕ} {blocks : List Part} → AcceptedDay day blocks end → let parts = part day [] ∷ blocks ++ (part end [] ∷ []) in
     walkFrom (joined parts) Fresh 0 (length (extentsFrom 0 parts)) ≡ record { extents = extentsFrom 0 parts; reply = is done }
-walked a = visits _ (day-walked (a .run) (a .closed))
+accepted-walked a = walk-visits _ (day-walked (a .run) (a .closed))

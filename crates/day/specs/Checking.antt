@@ -4,18 +4,18 @@ use mathlib.Core.List.{List}
 use lib.Dec.{ltb}
 use lib.ListN.{length}
 use Rattle.terms.specs.Reply.{Reply, is, need, next}
-use Rattle.terms.specs.Refusals.{refusal}
+use Rattle.terms.specs.Refusals.{refusal, noRefusal}
 use Rattle.terms.specs.declared.refusal.Refusal.{Refusal}
 use Rattle.records.specs.declared.group.GroupRecord.{GroupRecord}
-use Rattle.records.specs.Answers.{noRefusal}
-use Rattle.records.specs.Layouts.{groupKind, groupLength}
-use Rattle.records.specs.Reading.{headOf, keyOf, groupFieldsOf, unitsOf}
+use Rattle.records.specs.Layouts.{groupLength}
+use Rattle.records.specs.Reading.{keyOf, groupFieldsOf, unitsOf}
+use Rattle.walk.specs.Table.{blockHeadIn}
 use Rattle.writers.specs.Results.{resultLength}
 use Rattle.day.specs.declared.value.Day.{Day}
 use Rattle.day.specs.declared.check.Block.{Block}
 use Rattle.day.specs.declared.check.BlockAnswer.{BlockAnswer}
 use Rattle.day.specs.declared.check.BlockAnswer.the-variants as B
-use Rattle.day.specs.Days.{takesBlocks}
+use Rattle.day.specs.Days.{possible}
 
 -- a block of a group record that ends at a place: its result has 27 + 20·count bytes
 abbrev pub blockOf : GroupRecord → ℕ → Block
@@ -32,8 +32,8 @@ blockFieldsOf day s =
 unfoldable pub checkOf : Day → List ℕ → Reply Block
 checkOf day s =
     need (ltb 0 (length s)) 1 (length s)
-    (need (takesBlocks day) 2 0
-    (next (headOf s 0 groupKind groupLength) λ _.
+    (need (possible day) 2 0
+    (next (blockHeadIn s 0 (day .state)) λ _.
     blockFieldsOf day s))
 
 -- an answer as a reply, and the refusal of an answer that is one

@@ -5,11 +5,9 @@ use lib.Dec.{eqb}
 use Rattle.records.specs.declared.day.DayRecord.{DayRecord}
 use Rattle.records.specs.declared.key.Key.{Key}
 use Rattle.records.specs.declared.key.Last.the-variants.{Nothing, Block}
-use Rattle.records.specs.Layouts.{groupKind}
 use Rattle.records.specs.Reading.{permitted}
 use Rattle.walk.specs.declared.table.State.{State}
 use Rattle.walk.specs.declared.table.State.the-variants.{Fresh, Open, Closed}
-use Rattle.walk.specs.Table.{mayCome}
 use Rattle.day.specs.declared.value.Day.{Day}
 
 -- a day to which nothing was offered yet; its day record stands for nothing
@@ -43,7 +41,3 @@ possibleIn Closed day = true
 
 abbrev pub possible : Day → Bool
 possible day = possibleIn (day .state) day
-
--- a block may come
-abbrev pub takesBlocks : Day → Bool
-takesBlocks day = possible day && mayCome (day .state) groupKind

@@ -2,6 +2,6 @@
 pub mod Days
 pub mod Checking
 pub mod Blocks
-pub mod Laying
+pub mod Inner
 pub mod Offers
 pub mod WholeDays

@@ -2,16 +2,18 @@
 use Prim.Native.Nat.{ℕ}
 use mathlib.Core.Path.{_≡_}
 use mathlib.Core.List.{List, [], _++_}
-use lib.Dec.{eqb, leb, ltb}
+use lib.Dec.{leb, ltb}
 use lib.ListN.{length, drop}
 use Rattle.numbers.specs.Bytes.{byteAt}
 use Rattle.numbers.specs.Choice.{pick}
 use Rattle.terms.specs.Reply.{Reply, is, refused, need, next}
 use Rattle.terms.specs.Refusals.{refusal}
-use Rattle.records.specs.Layouts.{dayKind, dayLength, groupKind, endLength}
+use Rattle.records.specs.Layouts.{dayLength, endLength}
 use Rattle.records.specs.Reading.{dayFieldsOf, endFieldsOf}
+use Rattle.walk.specs.declared.table.Role.{Role}
+use Rattle.walk.specs.declared.table.Role.the-variants.{Opens, Block, Closes}
 use Rattle.walk.specs.declared.table.Head.{Head}
-use Rattle.walk.specs.Table.{headIn}
+use Rattle.walk.specs.Table.{roleOf, isBlock, headIn}
 use Rattle.day.specs.declared.value.Day.{Day}
 use Rattle.day.specs.declared.offer.Step.{Step}
 use Rattle.day.specs.declared.offer.Offered.{Offered}
@@ -46,20 +48,19 @@ endTaken day s =
     next (endFieldsOf s (day .groups)) λ _.
     is (record { used = endLength; written = 0; day = closed day })
 
--- the fields of what is offered, by its kind
-abbrev pub taken : Day → List ℕ → ℕ → ℕ → Reply Step
-taken day s room kind =
-    pick (eqb kind dayKind) (dayTaken s)
-    (pick (eqb kind groupKind) (blockTaken day s room)
-    (endTaken day s))
+-- the fields of what is offered, by what it is to the day
+abbrev pub taken : Day → List ℕ → ℕ → Role → Reply Step
+taken day s room Opens = dayTaken s
+taken day s room Block = blockTaken day s room
+taken day s room Closes = endTaken day s
 
 -- the reply: bytes used, bytes written and the new day, or a refusal
 unfoldable pub offerOf : Day → List ℕ → ℕ → Reply Step
-offerOf day s room = next (headFor day s) λ head. taken day s room (head .kind)
+offerOf day s room = next (headFor day s) λ head. taken day s room (head .role)
 
 -- what an accepted offer writes: the result of a block, and nothing for a day or an end
 abbrev pub writtenOf : List ℕ → List ℕ
-writtenOf s = pick (eqb (byteAt s 0) groupKind) (blockResult s) []
+writtenOf s = pick (isBlock (roleOf (byteAt s 0))) (blockResult s) []
 
 -- a refusal returns the day unchanged, and writes nothing; an accepted offer writes no byte of the room beyond its result
 unfoldable pub dayAfter : Reply Step → Day → Day

@@ -6,7 +6,7 @@ use lib.ListN.{length, take}
 use Rattle.numbers.specs.Bytes.{byteAt}
 use Rattle.walk.specs.declared.table.State.the-variants.{Closed}
 use Rattle.walk.specs.declared.step.Extent.{Extent}
-use Rattle.walk.specs.Walk.{stateAfter}
+use Rattle.walk.specs.Table.{roleOf, stateAfter}
 use Rattle.walk.specs.Extents.{from}
 use Rattle.day.specs.declared.value.Day.{Day}
 use Rattle.day.specs.declared.offer.Step.{Step}
@@ -41,4 +41,4 @@ joined (p ∷ ps) = p .bytes ++ joined ps
 
 abbrev pub extentsFrom : ℕ → List Part → List Extent
 extentsFrom at [] = []
-extentsFrom at (p ∷ ps) = from at (at + length (p .bytes)) (stateAfter (byteAt (p .bytes) 0)) ∷ extentsFrom (at + length (p .bytes)) ps
+extentsFrom at (p ∷ ps) = from at (at + length (p .bytes)) (stateAfter (roleOf (byteAt (p .bytes) 0))) ∷ extentsFrom (at + length (p .bytes)) ps

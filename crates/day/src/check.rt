@@ -5,18 +5,19 @@ ghost use lib.ListN.{length};
 ghost use Rattle.records.specs.Layouts.{groupLength};
 ghost use Rattle.day.specs.Checking.{blockOf, blockReply, blockRefusal, blockFieldsOf, checkOf};
 use crate::value::Day;
-use records::field::no_refusal;
 use records::group::GroupAnswer;
 use records::group::GroupRecord;
 use records::group::group_fields;
 use records::group_result::GroupResult;
-use records::head::head;
 use records::key::Key;
 use records::unit_result::UnitResult;
 use records::units::units_from;
 use terms::refusal::Answer;
 use terms::refusal::Refusal;
 use terms::refusal::Why;
+use terms::refusal::no_refusal;
+use walk::table::HeadAnswer;
+use walk::table::block_head;
 
 // A block that passed: its key and how many units it has, the bytes it takes up and those of its result.
 pub struct Block {
@@ -95,14 +96,15 @@ pub fn check_block(day: Day, s: &[u8]) -> BlockAnswer
             place: n,
         });
     }
-    if !day.takes_blocks() {
+    if !day.is_possible() {
         return BlockAnswer::Refused(Refusal {
             why: Why::Kind,
             place: 0,
         });
     }
-    let h = head(s, 0, GroupRecord::KIND, GroupRecord::LEN);
-    let Answer::Is(_) = h else {
+    let state = day.state;
+    let h = block_head(s, 0, state);
+    let HeadAnswer::Is(_) = h else {
         return BlockAnswer::Refused(h.refusal());
     };
     block_fields(day, s)

@@ -1,134 +1,76 @@
-// The result of a block whose units passed, laid unit by unit from the block's bytes, n1 and what step 2 takes.
+// The result of a block, laid unit by unit from its columns.
 // Each number of four bytes is stored right after something is read: so the compiler makes one store of it.
 ghost use mathlib.Core.Path.{_≡_};
-ghost use Prim.Native.Nat.{_+_, _*_, _≤_, _<_};
-ghost use lib.ListN.{length, getD};
+ghost use Prim.Native.Nat.{_≤_};
+ghost use lib.ListN.{length};
 ghost use Rattle.numbers.specs.Bytes.{laidAt};
-ghost use Rattle.numbers.specs.Column.{at};
-ghost use Rattle.numbers.specs.Sum.{sumZ};
-ghost use Rattle.group.specs.Steps.{step3Of, zeroOutside};
-ghost use Rattle.records.specs.Layouts.{groupLength, unitLength, groupResultLength, groupResultBytes, unitResultLength, unitResultBytes, unitAt};
-ghost use Rattle.records.specs.Reading.{unitIn};
-ghost use Rattle.records.specs.Decoding.{unitN0, unitImplicit};
+ghost use Rattle.records.specs.Layouts.{groupLength, groupResultLength, groupResultBytes, unitResultBytes, unitAt};
+ghost use Rattle.writers.specs.Results.{resultFrom};
 ghost use Rattle.day.specs.Blocks.{groupResult, blockKey, blockCount};
-ghost use Rattle.day.specs.Laying.{stretchedOf, unitResultBy, laidUnits, stretchedIn, WholeUnit, Laying};
+ghost use Rattle.day.specs.Inner.{laidUnits, UnitLaying, Laying};
 use group::judge::Sums;
-use group::unit::nearer;
-use group::unit::reason;
-use group::unit::step3;
-use group::unit::zero_outside;
-use numbers::bytes::i32_at;
 use numbers::bytes::lay_i32;
 use numbers::bytes::lay_u8;
 use numbers::bytes::u16_at;
 use records::group::GroupRecord;
 use records::group_result::GroupResult;
 use records::unit::UnitRecord;
+use records::unit::unit_end;
 use records::unit_result::UnitResult;
-use terms::quantity::Direction;
-use terms::quantity::Position;
 use writers::lay::lay_head;
 use writers::lay::lay_three;
 
-// What the checks of a unit start from: n0, and whether it is an implicit nomination.
-struct Start {
-    n0: i32,
-    implicit: bool,
-}
-
-// The nomination that the checks of a unit start from, read from the block's bytes again; what is not needed is not read.
-fn start_at(s: &[u8], at: usize) -> Start
-    requires { ⌜ WholeUnit (now s) at (unitAt (now s) at) ⌝ }
-    ensures { λ r. ⌜ (r .n0 ≡ unitN0 (unitAt (now (s .entry)) at)) × (r .implicit ≡ unitImplicit (unitAt (now (s .entry)) at)) ⌝ }
-{
-    if s[at + UnitRecord::NOMINATED] == 1 {
-        return Start {
-            n0: i32_at(s, at + UnitRecord::N),
-            implicit: false,
-        };
-    }
-    if s[at + UnitRecord::COINCIDE] == 1 {
-        let pc = Position(i32_at(s, at + UnitRecord::PC));
-        let n = pc.nominated();
-        return Start {
-            n0: n.0,
-            implicit: true,
-        };
-    }
-    Start {
-        n0: 0,
-        implicit: false,
-    }
-}
-
-// Step 3 by the margins in the block's bytes.
-fn step3_at(s: &[u8], at: usize, n2: i32) -> i32
-    requires { ⌜ at + unitLength ≤ length (now s) ⌝ }
-    ensures { λ r. ⌜ r ≡ step3Of n2 (unitAt (now (s .entry)) at .«step_down») (unitAt (now (s .entry)) at .«step_up») ⌝ }
-{
-    let step_down = i32_at(s, at + UnitRecord::STEP_DOWN);
-    let step_up = i32_at(s, at + UnitRecord::STEP_UP);
-    step3(n2, step_down, step_up)
-}
-
-// Whether a unit at zero lies outside its margins, which are read again only then.
-fn zero_outside_at(s: &[u8], at: usize, n3: i32) -> bool
-    requires { ⌜ at + unitLength ≤ length (now s) ⌝ }
-    ensures { λ r. ⌜ r ≡ zeroOutside n3 (unitAt (now (s .entry)) at .«step_down») (unitAt (now (s .entry)) at .«step_up») ⌝ }
-{
-    if n3 != 0 {
-        return false;
-    }
-    let step_down = i32_at(s, at + UnitRecord::STEP_DOWN);
-    let step_up = i32_at(s, at + UnitRecord::STEP_UP);
-    zero_outside(n3, step_down, step_up)
-}
-
-// The result of the unit of an index; n3 comes back.
+// The result of the unit of an index, whose record begins at a place, at a place of the room.
 fn lay_unit_result(
     room: &mut [u8],
+    to: usize,
     s: &[u8],
-    d: Direction,
+    here: usize,
+    why: &[u8],
+    n0: &[i32],
     n1: &[i32],
-    losses: &[u32],
+    n2: &[i32],
+    n3: &[i32],
     i: usize,
-) -> i32
-    requires { ⌜ Laying (now s) (now n1) (now losses) (now room) × (i < length (now n1)) ⌝ }
-    ensures { λ r. ⌜ (r ≡ stretchedOf (unitIn (now (s .entry)) i) d (at (now (n1 .entry)) i) (getD (now (losses .entry)) i 0))
-        × (now (room .exit) ≡ laidAt (now (room .entry)) (groupResultLength + unitResultLength * i) (unitResultBytes (unitResultBy (unitIn (now (s .entry)) i) d (at (now (n1 .entry)) i) (getD (now (losses .entry)) i 0)))) ⌝ }
+)
+    requires { ⌜ UnitLaying (now s) here (now why) (now n0) (now n1) (now n2) (now n3) i (now room) to ⌝ }
+    ensures { λ _. ⌜ now (room .exit) ≡ laidAt (now (room .entry)) to (unitResultBytes (resultFrom (unitAt (now (s .entry)) here .number) (now (why .entry)) (now (n0 .entry)) (now (n1 .entry)) (now (n2 .entry)) (now (n3 .entry)) i)) ⌝ }
 {
-    let at = GroupRecord::LEN + UnitRecord::LEN * i;
-    let to = GroupResult::LEN + UnitResult::LEN * i;
-    let start = start_at(s, at);
-    let n0 = start.n0;
-    lay_i32(room, to + UnitResult::N0, n0);
+    let start = n0[i];
+    lay_i32(room, to + UnitResult::N0, start);
     let first = n1[i];
     lay_i32(room, to + UnitResult::N0 + 4, first);
-    let second = nearer(d, first, losses[i]);
+    let second = n2[i];
     lay_i32(room, to + UnitResult::N0 + 8, second);
-    let third = step3_at(s, at, second);
+    let third = n3[i];
     lay_i32(room, to + UnitResult::N0 + 12, third);
-    let outside = zero_outside_at(s, at, third);
-    let why = reason(start.implicit, n0, first, second, third, outside);
-    let number = u16_at(s, at + UnitRecord::NUMBER);
+    let number = u16_at(s, here + UnitRecord::NUMBER);
     lay_head(room, to, UnitResult::KIND, number);
-    lay_u8(room, to + UnitResult::REASON, why);
-    third
+    lay_u8(room, to + UnitResult::REASON, why[i]);
 }
 
-// The results of the units one after another, and S3.
-pub fn lay_unit_results(room: &mut [u8], s: &[u8], d: Direction, n1: &[i32], losses: &[u32]) -> i32
-    requires { ⌜ Laying (now s) (now n1) (now losses) (now room) ⌝ }
-    ensures { λ r. ⌜ (r ≡ sumZ (stretchedIn (now (s .entry)) d (now (n1 .entry)) (now (losses .entry))))
-        × (now (room .exit) ≡ laidAt (now (room .entry)) groupResultLength (laidUnits (now (s .entry)) d (now (n1 .entry)) (now (losses .entry)) (length (now (n1 .entry))))) ⌝ }
+// The results of the units one after another.
+pub fn lay_unit_results(
+    room: &mut [u8],
+    s: &[u8],
+    why: &[u8],
+    n0: &[i32],
+    n1: &[i32],
+    n2: &[i32],
+    n3: &[i32],
+)
+    requires { ⌜ Laying (now s) (now why) (now n0) (now n1) (now n2) (now n3) (now room) ⌝ }
+    ensures { λ _. ⌜ now (room .exit) ≡ laidAt (now (room .entry)) groupResultLength (laidUnits (now (s .entry)) (now (why .entry)) (now (n0 .entry)) (now (n1 .entry)) (now (n2 .entry)) (now (n3 .entry))) ⌝ }
 {
-    let mut s3 = 0;
+    let mut here = GroupRecord::LEN;
+    let mut to = GroupResult::LEN;
     let mut i = 0;
-    while i < n1.len() {
-        s3 += lay_unit_result(room, s, d, n1, losses, i);
+    while i < n0.len() {
+        lay_unit_result(room, to, s, here, why, n0, n1, n2, n3, i);
+        here = unit_end(s, here);
+        to += UnitResult::LEN;
         i += 1;
     }
-    s3
 }
 
 // The group's result; its key and count are the block's own.

@@ -1,9 +1,8 @@
 // The day value, which goes in with each call and comes back.
 ghost use mathlib.Core.Path.{_≡_};
 ghost use Prim.Native.Nat.{_<_};
-ghost use Rattle.day.specs.Days.{fresh, opened, counted, closed, couldBeOpen, possible, takesBlocks};
+ghost use Rattle.day.specs.Days.{fresh, opened, counted, closed, couldBeOpen, possible};
 use records::day::DayRecord;
-use records::group::GroupRecord;
 use records::key::Key;
 use records::key::Last;
 use walk::table::State;
@@ -93,16 +92,5 @@ impl Day {
             State::Open => self.could_be_open(),
             State::Closed => true,
         }
-    }
-
-    // Whether a block may come.
-    pub fn takes_blocks(self) -> bool
-        ensures { λ r. ⌜ r ≡ takesBlocks self ⌝ }
-    {
-        if !self.is_possible() {
-            return false;
-        }
-        let state = self.state;
-        0 < state.body(GroupRecord::KIND)
     }
 }

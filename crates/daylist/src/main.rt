@@ -1,7 +1,7 @@
 // The day list: a day from standard input, its lines to standard output, in constant memory.
 ghost use mathlib.Core.Path.{_≡_};
 ghost use lib.ListN.{length};
-ghost use Rattle.daylist.specs.Places.{Places};
+ghost use Rattle.daylist.specs.Inner.{Places};
 
 mod work;
 

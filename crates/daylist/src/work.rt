@@ -2,7 +2,7 @@
 ghost use mathlib.Core.Path.{_≡_};
 ghost use Prim.Native.Nat.{_+_, _-_, _≤_};
 ghost use lib.ListN.{length};
-ghost use Rattle.daylist.specs.Places.{Places};
+ghost use Rattle.daylist.specs.Inner.{Places};
 use day::value::Day;
 use libc::STDERR_FILENO;
 use libc::STDIN_FILENO;

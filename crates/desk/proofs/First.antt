@@ -1,27 +1,31 @@
--- A block that opens with 02h, offered as the first of its day: what it writes is its result, which is short.
+-- A block by the table, offered as the first of its day: what it writes is its result, which is short.
 use Prim.Native.Nat.{ℕ, _≤_}
-use mathlib.Core.Path.{_≡_, refl, ap, _∙_}
+use mathlib.Core.Path.{_≡_, ap, _∙_}
 use mathlib.Core.Bool.{true}
 use mathlib.Core.List.{List}
 use native.Mathlib.Omega.{arith}
+use borrow.Author.Tests.{lt-ltb}
 use lib.IntN.{ℤ, pos, negℤ}
 use lib.ListN.{length}
-use Rattle.terms.specs.Reply.{Reply, is, refused, next}
+use Rattle.terms.specs.Reply.{Reply, is, refused, need, next}
 use Rattle.terms.proofs.Replies.{need-is, next-is}
 use Rattle.records.specs.declared.day.DayRecord.{DayRecord}
-use Rattle.records.specs.Layouts.{dayAt}
+use Rattle.records.specs.Layouts.{dayKind, dayLength, dayAt, groupLength}
 use Rattle.records.specs.Reading.{headOf, permitted, dayFieldsOf, dayOf}
-use Rattle.records.proofs.Heads.{headed}
+use Rattle.walk.specs.declared.table.State.the-variants.{Open}
+use Rattle.walk.specs.declared.table.Head.{Head}
+use Rattle.walk.specs.Table.{blockHeadIn}
+use Rattle.walk.proofs.Coming.{BlockCame, block-came}
 use Rattle.day.specs.declared.offer.Step.{Step}
 use Rattle.day.specs.declared.offer.Offered.{Offered}
 use Rattle.day.specs.Days.{opened}
 use Rattle.day.specs.Blocks.{blockResult}
-use Rattle.day.specs.Offers.{blockTaken, offerOf, offerReply, roomAfter, Offering}
+use Rattle.day.specs.Offers.{headFor, blockTaken, offerOf, offerReply, roomAfter, Offering}
 use Rattle.day.proofs.ByKind.{offer-block}
 use Rattle.day.proofs.Read.{read}
 use Rattle.day.proofs.Outcomes.{taken-block}
-use Rattle.day.proofs.Written.{block-comes}
-use Rattle.desk.specs.Desk.{firstOf, callOf, given, Gives, Short}
+use Rattle.desk.specs.Desk.{firstOf, callOf, given, Gives}
+use Rattle.desk.specs.Inner.{Short}
 
 -- a refusal writes nothing, and its number is turned
 pub refuses : {right : Reply Step} (block entry : List ℕ) {n p : ℕ} {z : ℤ} → right ≡ refused n p → z ≡ negℤ (pos n) → Gives right block entry z entry
@@ -37,7 +41,7 @@ module _ (day s : List ℕ) (room : ℕ) where
   unfolding callOf next
   day-in e = rw e
 
-pub head-out : (d : DayRecord) (s : List ℕ) (room : ℕ) {n p : ℕ} → headOf s 0 2 10 ≡ refused n p → firstOf d s room ≡ refused n p
+pub head-out : (d : DayRecord) (s : List ℕ) (room : ℕ) {n p : ℕ} → blockHeadIn s 0 Open ≡ refused n p → firstOf d s room ≡ refused n p
 unfolding firstOf next
 head-out d s room e = rw e
 
@@ -45,24 +49,31 @@ head-out d s room e = rw e
 pub day-permitted : (s : List ℕ) {d : DayRecord} → dayOf s ≡ is d → permitted (d .quarters) ≡ true
 unfolding dayOf dayFieldsOf
 day-permitted s {d} e =
-    let a = next-is (headOf s 0 1 12) _ e in
+    let a = next-is (headOf s 0 dayKind dayLength) _ e in
     let b = need-is _ _ _ _ (a .1 .1) in
     let v : d ≡ dayAt s 0 = cc (b .1) in
     rw v (b .0)
 
-module _ (s : List ℕ) {end : ℕ} (h : headOf s 0 2 10 ≡ is end) where
-  pub long : 10 ≤ length s
-  long = headed s 0 2 10 h .long
+module _ (s : List ℕ) {head : Head} (h : blockHeadIn s 0 Open ≡ is head) where
+  came : BlockCame s 0 Open head
+  came = block-came s 0 Open head h
+
+  pub long : groupLength ≤ length s
+  long = came .long
 
   module _ (d : DayRecord) (p : permitted (d .quarters) ≡ true) (room : ℕ) where
     -- to the day just opened it comes next, and is a block
+    comes : headFor (opened d) s ≡ is head
+    unfolding headFor need
+    comes = rw (lt-ltb 0 (length s) (omega (arith, came .long)), p, came .read)
+
     offers-block : offerOf (opened d) s room ≡ blockTaken (opened d) s room
-    offers-block = offer-block (opened d) s (record { kind = 2; end = end }) (block-comes (opened d) s (rw p) refl h) refl room
+    offers-block = offer-block (opened d) s head comes (came .role) room
 
     pub short : Short (blockTaken (opened d) s room)
     short step e =
-        let t = taken-block (opened d) s room (offers-block ∙ e) (headed s 0 2 10 h .first) in
-        let few = read (opened d) s (t .fields) .few in
+        let t = taken-block (opened d) s room (offers-block ∙ e) (came .first) in
+        let few = read (opened d) s (came .long) (t .fields) .few in
         rw (t .value) (omega arith)
 
     head-in : firstOf d s room ≡ blockTaken (opened d) s room

@@ -6,8 +6,8 @@ use lib.IntN.{ℤ}
 use Rattle.desk.specs.Desk.{Checks}
 
 module _ (day block entry : List ℕ) {r r′ : ℤ} {exit exit′ : List ℕ} (a : Checks day block entry r exit) (b : Checks day block entry r′ exit′) where
-  pub one-reply : r ≡ r′
-  one-reply = a .replied ∙ sym (b .replied)
+  pub reply-unique : r ≡ r′
+  reply-unique = a .replied ∙ sym (b .replied)
 
-  pub one-room : exit ≡ exit′
-  one-room = a .room ∙ sym (b .room)
+  pub room-unique : exit ≡ exit′
+  room-unique = a .room ∙ sym (b .room)

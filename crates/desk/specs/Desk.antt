@@ -1,22 +1,22 @@
 -- "Ways in": the desk's screen program hands over day bytes, one block and room, and gets back the written length, or minus the refusal number and no place.
-use Prim.Native.Nat.{ℕ, _≤_}
+use Prim.Native.Nat.{ℕ}
 use mathlib.Core.Path.{_≡_}
 use mathlib.Core.List.{List}
 use lib.IntN.{ℤ, pos, negℤ}
 use lib.ListN.{length}
 use Rattle.terms.specs.Reply.{Reply, is, refused, next}
 use Rattle.records.specs.declared.day.DayRecord.{DayRecord}
-use Rattle.records.specs.Layouts.{groupKind, groupLength}
-use Rattle.records.specs.Reading.{headOf, dayOf}
+use Rattle.records.specs.Reading.{dayOf}
+use Rattle.walk.specs.Table.{blockHeadIn}
 use Rattle.day.specs.declared.offer.Step.{Step}
 use Rattle.day.specs.Days.{opened}
 use Rattle.day.specs.Blocks.{blockResult}
 use Rattle.day.specs.Offers.{offerOf, roomAfter}
 
--- a block that opens with a kind other than 02h is 2; it counts as the first of its day
+-- the block counts as the first of its day; one that opens with a kind other than 02h is 2
 unfoldable pub firstOf : DayRecord → List ℕ → ℕ → Reply Step
 firstOf d block room =
-    next (headOf block 0 groupKind groupLength) λ _.
+    next (blockHeadIn block 0 (opened d .state)) λ _.
     offerOf (opened d) block room
 
 -- the day bytes are judged first
@@ -34,7 +34,3 @@ pub record Gives (right : Reply Step) (block entry : List ℕ) (reply : ℤ) (ex
 
 abbrev pub Checks : List ℕ → List ℕ → List ℕ → ℤ → List ℕ → Type 0
 Checks day block entry reply exit = Gives (callOf day block (length entry)) block entry reply exit
-
--- what was written is no longer than the longest result
-abbrev pub Short : Reply Step → Type 0
-Short right = (step : Step) → right ≡ is step → step .written ≤ 1307

@@ -6,17 +6,18 @@ ghost use lib.ListN.{length};
 ghost use Rattle.terms.specs.Refusals.{numberOf};
 ghost use Rattle.records.specs.Reading.{permitted};
 ghost use Rattle.day.specs.Offers.{offerReply};
-ghost use Rattle.desk.specs.Desk.{firstOf, given, Gives, Checks, Short};
+ghost use Rattle.desk.specs.Desk.{firstOf, given, Gives, Checks};
+ghost use Rattle.desk.specs.Inner.{Short};
 use day::offer::Offered;
 use day::offer::take_block;
 use day::value::Day;
 use records::day::DayAnswer;
 use records::day::DayRecord;
 use records::day::read_day;
-use records::group::GroupRecord;
-use records::head::head;
-use terms::refusal::Answer;
 use terms::refusal::Refusal;
+use walk::table::HeadAnswer;
+use walk::table::State;
+use walk::table::block_head;
 
 // Minus the refusal number; C gets no place.
 fn minus(r: Refusal) -> i32
@@ -37,13 +38,13 @@ fn reply(o: Offered) -> i32
     }
 }
 
-// A block that opens with its kind, as the first of the day that a record opens.
+// A block by the table, as the first of the day that a record opens.
 fn check_first(record: DayRecord, block: &[u8], room: &mut [u8]) -> i32
     requires { ⌜ permitted («record» .quarters) ≡ true ⌝ }
     ensures { λ n. ⌜ Gives (firstOf «record» (now (block .entry)) (length (now (room .entry)))) (now (block .entry)) (now (room .entry)) n (now (room .exit)) ⌝ }
 {
-    let h = head(block, 0, GroupRecord::KIND, GroupRecord::LEN);
-    let Answer::Is(_) = h else {
+    let h = block_head(block, 0, State::Open);
+    let HeadAnswer::Is(_) = h else {
         return minus(h.refusal());
     };
     let o = take_block(Day::opened(record), block, room);

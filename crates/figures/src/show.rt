@@ -10,13 +10,14 @@ use group::judge::Judgement;
 use group::judge::Sums;
 use group::judge::judge;
 use group::unit::reason;
-use group::unit::zero_outside;
+use records::unit::UnitRecord;
+use terms::quantity::Margins;
 use terms::refusal::Refusal;
 
 // The widest margins, LOW and HIGH.
-pub const LOW: i32 = -1000000;
+pub const LOW: i32 = -UnitRecord::LIMIT;
 
-pub const HIGH: i32 = 1000000;
+pub const HIGH: i32 = UnitRecord::LIMIT;
 
 fn sums(s: Sums) {
     named(b" verdict ", s.verdict as i32);
@@ -38,6 +39,12 @@ pub fn refused(r: Refusal) {
     place(b" at ", r.place);
 }
 
+fn mark(taken: bool) -> u8
+    ensures { λ r. ⌜ r ≤ 1 ⌝ }
+{
+    if taken { 1 } else { 0 }
+}
+
 // Each unit's reason, where an implicit nomination was taken for all of them or for none.
 fn reasons(
     taken: bool,
@@ -54,8 +61,11 @@ fn reasons(
     text(b" reasons");
     let mut i = 0;
     while i < n0.len() {
-        let outside = zero_outside(n3[i], step_down[i], step_up[i]);
-        let sum = reason(taken, n0[i], n1[i], n2[i], n3[i], outside);
+        let margins = Margins {
+            step_down: step_down[i],
+            step_up: step_up[i],
+        };
+        let sum = reason(mark(taken), n0[i], n1[i], n2[i], n3[i], margins);
         named(b" ", sum as i32);
         i += 1;
     }

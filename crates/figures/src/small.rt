@@ -24,9 +24,9 @@ pub fn margins() {
 
 // A unit that is not nominated, with PC -500.
 fn not_nominated(name: &[u8], coincide: u8) {
-    let n0 = considered(0, coincide, Nomination(0), Position(-500));
-    let taken = is_implicit(0, coincide);
-    show(name, taken, &[n0.0], &[-500], &[LOW], &[HIGH], &[0]);
+    let implicit = is_implicit(0, coincide);
+    let n0 = considered(implicit, Nomination(0), Position(-500));
+    show(name, implicit, &[n0.0], &[-500], &[LOW], &[HIGH], &[0]);
 }
 
 pub fn implicit() {

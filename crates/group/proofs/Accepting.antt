@@ -1,5 +1,5 @@
 -- What an accepted group has passed, read back from the reply test by test.
-use Prim.Native.Nat.{ℕ, _≤_, _<_}
+use Prim.Native.Nat.{ℕ, _<_}
 use mathlib.Core.Path.{_≡_, refl}
 use mathlib.Core.Bool.{true}
 use mathlib.Core.List.{List}
@@ -16,63 +16,51 @@ use Rattle.numbers.proofs.Integers.{zarith, one-side}
 use Rattle.numbers.proofs.Choices.{and-both}
 use Rattle.numbers.proofs.Sums.{sum64-within}
 use Rattle.terms.specs.Reply.{is}
-use Rattle.terms.specs.Refusals.{unitsFrom}
-use Rattle.terms.specs.Checks.{isFlag, inRange, amountChecks}
+use Rattle.terms.specs.Refusals.{firstFault}
+use Rattle.terms.specs.Quantities.{knownClass}
+use Rattle.terms.specs.Checks.{inRange, mostUnits, unitCount, marginChecks, amountChecks}
+use Rattle.terms.specs.declared.quantity.Margins.{Margins}
 use Rattle.terms.specs.declared.refusal.Checked.the-variants.{Fine}
 use Rattle.terms.specs.declared.refusal.Fault.the-variants as F
 use Rattle.terms.proofs.Replies.{need-is, next-is}
 use Rattle.terms.proofs.Passing.{passes}
 use Rattle.terms.proofs.Scan.{all-fine}
-use Rattle.group.specs.Group.{Group, units, position, excess, n1}
-use Rattle.group.specs.Columns.{unitCheck, unitChecks, lengths, oneLength, countPermitted, sumsOf, judgeOf}
-use Rattle.group.specs.Asked.{Level, Judged, Bearable}
+use Rattle.group.specs.Group.{Group, units, marginsAt, position, excess, n1}
+use Rattle.group.specs.Columns.{unitCheck, unitChecks, lengths, oneLength, sumsOf, judgeOf}
+use Rattle.group.specs.Accepted.{Level, Sound, Accepted}
+use Rattle.group.specs.Inner.{Judged, Bearable}
 use Rattle.group.specs.declared.judge.Sums.{Sums}
 use Rattle.group.proofs.Judging.{n1-bearable}
-
--- the fields of a unit that passes its checks
-pub record Sound (class : ℕ) (n0 pc stepDown stepUp : ℤ) : Type 0 where
-  pub known : class ≤ 1
-  pub n0-small : Within 1000000 n0
-  pub pc-small : Within 1000000 pc
-  pub down-small : Within 1000000 stepDown
-  pub up-small : Within 1000000 stepUp
-  pub ordered : leZ stepDown stepUp ≡ true
 
 range-small : (z : ℤ) → inRange z ≡ true → Within 1000000 z
 range-small z e =
     let p = and-both (leZ (negℤ (pos 1000000)) z) (leZ z (pos 1000000)) e in
     omega (zarith, one-side z)
 
-unit-sound : (class : ℕ) (n0 pc stepDown stepUp : ℤ) → unitCheck class n0 pc stepDown stepUp ≡ Fine → Sound class n0 pc stepDown stepUp
-unfolding unitCheck amountChecks
-unit-sound class n0 pc stepDown stepUp e =
-    let a = passes (isFlag class) F.Class _ e in
+unit-sound : (class : ℕ) (n0 pc : ℤ) (m : Margins) → unitCheck class n0 pc m ≡ Fine → Sound class n0 pc m
+unfolding unitCheck amountChecks marginChecks
+unit-sound class n0 pc m e =
+    let a = passes (knownClass class) F.Class _ e in
     let b = passes (inRange n0) F.N _ (a .1) in
     let c = passes (inRange pc) F.Pc _ (b .1) in
-    let d = passes (inRange stepDown) F.StepDown _ (c .1) in
-    let f = passes (inRange stepUp) F.StepUp _ (d .1) in
+    let d = passes (inRange (m .«step_down»)) F.StepDown _ (c .1) in
+    let f = passes (inRange (m .«step_up»)) F.StepUp _ (d .1) in
     record {
-      known = leb-true class 1 (a .0);
+      known = a .0;
       n0-small = range-small n0 (b .0);
       pc-small = range-small pc (c .0);
-      down-small = range-small stepDown (d .0);
-      up-small = range-small stepUp (f .0);
-      ordered = passes (leZ stepDown stepUp) F.Crossed Fine (f .1) .0;
+      down-small = range-small (m .«step_down») (d .0);
+      up-small = range-small (m .«step_up») (f .0);
+      ordered = passes (leZ (m .«step_down») (m .«step_up»)) F.Crossed Fine (f .1) .0;
     }
-
--- a group that is not refused
-pub record Accepted (g : Group) : Type 0 where
-  pub few : units g ≤ 64
-  pub level : Level g
-  pub sound : (i : ℕ) → Sound (getD (g .class) i 0) (at (g .n0) i) (at (g .pc) i) (at (g .stepDown) i) (at (g .stepUp) i)
 
 pub position-within : (g : Group) → Accepted g → Within 64000000 (position g)
 position-within g a = sum64-within (g .pc) (omega (arith, a .level .positions, a .few)) (λ i. a .sound i .pc-small)
 
--- such a group, with three columns as long as it
-pub judged-by : (g : Group) {first second third : List ℤ} → Accepted g → length first ≡ units g → length second ≡ units g → length third ≡ units g
-    → Judged (position g) (g .n0) (g .stepDown) (g .stepUp) (g .class) first second third
-judged-by g a firsts seconds thirds =
+-- such a group, with two columns as long as it
+pub judged-by : (g : Group) {first second : List ℤ} → Accepted g → length first ≡ units g → length second ≡ units g
+    → Judged (position g) (g .n0) (g .stepDown) (g .stepUp) (g .class) first second
+judged-by g a firsts seconds =
     record {
       few = a .few;
       downs = a .level .downs;
@@ -81,7 +69,6 @@ judged-by g a firsts seconds thirds =
       known = λ i. a .sound i .known;
       firsts = firsts;
       seconds = seconds;
-      thirds = thirds;
       position-small = position-within g a;
       n0-small = λ i. a .sound i .n0-small;
       down-small = λ i. a .sound i .down-small;
@@ -121,21 +108,22 @@ pub level-of : (g : Group) (first second third : List ℤ) → oneLength g first
 level-of g first second third e = even g first second third e .level
 
 -- past the end there is nothing to refuse
-nothing-sound : Sound 0 (pos 0) (pos 0) (pos 0) (pos 0)
-nothing-sound = omega zarith
+nothing-sound : Sound 0 (pos 0) (pos 0) (record { «step_down» = pos 0; «step_up» = pos 0 })
+nothing-sound =
+    record { known = refl; n0-small = omega zarith; pc-small = omega zarith; down-small = omega zarith; up-small = omega zarith; ordered = refl }
 
 module _ (g : Group) (first second third : List ℤ) {n : ℕ} (lengths-one : oneLength g first second third ≡ true)
-    (permitted : countPermitted (units g) ≡ true) (fine : unitsFrom (unitChecks g) 0 (units g) ≡ is n) where
+    (permitted : unitCount (units g) ≡ true) (fine : firstFault (unitChecks g) 0 (units g) ≡ is n) where
   pub accepted-by : Accepted g
   unfolding unitChecks
-  accepted-by = record { few = leb-true (units g) 64 (and-both (leb 1 (units g)) (leb (units g) 64) permitted .1); level = v; sound = λ i. go i (decLt i (units g)) }
+  accepted-by = record { few = leb-true (units g) mostUnits (and-both (leb 1 (units g)) (leb (units g) mostUnits) permitted .1); level = v; sound = λ i. go i (decLt i (units g)) }
     where
       v : Level g
       v = even g first second third lengths-one .level
 
-      go : (i : ℕ) → Dec (i < units g) → Sound (getD (g .class) i 0) (at (g .n0) i) (at (g .pc) i) (at (g .stepDown) i) (at (g .stepUp) i)
+      go : (i : ℕ) → Dec (i < units g) → Sound (getD (g .class) i 0) (at (g .n0) i) (at (g .pc) i) (marginsAt (g .stepDown) (g .stepUp) i)
       go i (yes l) =
-          unit-sound (getD (g .class) i 0) (at (g .n0) i) (at (g .pc) i) (at (g .stepDown) i) (at (g .stepUp) i)
+          unit-sound (getD (g .class) i 0) (at (g .n0) i) (at (g .pc) i) (marginsAt (g .stepDown) (g .stepUp) i)
           (all-fine (unitChecks g) 0 (units g) fine i (omega arith) (omega arith))
       go i (no l) =
           rw (
@@ -147,19 +135,19 @@ module _ (g : Group) (first second third : List ℤ) {n : ℕ} (lengths-one : on
           )
           nothing-sound
 
-  pub judged-of : Judged (position g) (g .n0) (g .stepDown) (g .stepUp) (g .class) first second third
+  pub judged-of : Judged (position g) (g .n0) (g .stepDown) (g .stepUp) (g .class) first second × (length third ≡ units g)
   judged-of =
       let v = even g first second third lengths-one in
-      judged-by g accepted-by (v .firsts) (v .seconds) (v .thirds)
+      (judged-by g accepted-by (v .firsts) (v .seconds), v .thirds)
 
 pub accepted : (g : Group) (first second third : List ℤ) {sums : Sums} → judgeOf g first second third ≡ is sums → Accepted g
 unfolding judgeOf
 accepted g first second third e =
     let a = need-is (oneLength g first second third) 15 0 _ e in
-    let b = need-is (countPermitted (units g)) 5 0 _ (a .1) in
-    let c = next-is (unitsFrom (unitChecks g) 0 (units g)) (λ _. is (sumsOf g)) (b .1) in
+    let b = need-is (unitCount (units g)) 5 0 _ (a .1) in
+    let c = next-is (firstFault (unitChecks g) 0 (units g)) (λ _. is (sumsOf g)) (b .1) in
     accepted-by g first second third (a .0) (b .0) (c .1 .0)
 
 -- n1 of such a group is a column that can be cut, and bears its excess
 pub bearable-of : (g : Group) → Accepted g → Bearable (excess g) (n1 g) (g .class)
-bearable-of g a = n1-bearable (judged-by g {first = g .n0} {second = g .n0} {third = g .n0} a refl refl refl)
+bearable-of g a = n1-bearable (judged-by g {first = g .n0} {second = g .n0} a refl refl)

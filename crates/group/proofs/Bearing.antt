@@ -16,7 +16,7 @@ use Rattle.terms.specs.declared.quantity.Direction.{Direction}
 use Rattle.terms.specs.declared.quantity.Direction.the-variants.{Injections, Withdrawals}
 use Rattle.group.specs.Steps.{bandOf, excessOf, directionOf}
 use Rattle.group.specs.Group.{sizesOf}
-use Rattle.group.specs.Asked.{Classed}
+use Rattle.group.specs.Inner.{Classed}
 use Rattle.group.specs.declared.band.Band.{Band}
 use Rattle.group.proofs.Bands.{low-zero, high-zero}
 use Rattle.group.proofs.Sides.{size-in, both-totals, sum-size}
@@ -37,7 +37,7 @@ pub record Toward (m n : ℤ) : Type 0 where
   pub up : pp m ≤ pp n
   pub down : nn m ≤ nn n
 
-excess-toward : (p s : ℤ) → Toward (excessOf (bandOf p) s) s
+pub excess-toward : (p s : ℤ) → Toward (excessOf (bandOf p) s) s
 excess-toward p s =
     let l : leZ (bandOf p .low) (pos 0) ≡ true = low-zero p in
     let h : leZ (pos 0) (bandOf p .high) ≡ true = high-zero p in

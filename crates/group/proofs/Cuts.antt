@@ -20,10 +20,10 @@ use Rattle.terms.specs.declared.quantity.Standing.the-variants.{NotEnabled, Ena
 use Rattle.terms.specs.declared.quantity.Direction.{Direction}
 use Rattle.terms.specs.declared.quantity.Direction.the-variants.{Injections, Withdrawals}
 use Rattle.quota.specs.Quota.{cutsOf, Fair}
-use Rattle.quota.proofs.Fairness.{fair, length-cuts, cuts-within, cuts-total, cuts-all}
+use Rattle.quota.proofs.Fairness.{cuts-fair, length-cuts, cuts-within, cuts-total, cuts-all}
 use Rattle.group.specs.Steps.{directionOf, nearerBy}
-use Rattle.group.specs.Group.{sizeOf, sizesOf, shareOf, cutsFor, taken, step2All}
-use Rattle.group.specs.Asked.{Classed, lossAt}
+use Rattle.group.specs.Group.{sizeOf, sizesOf, shareOf, cutsFor, takenOff, step2All}
+use Rattle.group.specs.Inner.{Classed, lossAt}
 use Rattle.group.proofs.Sides.{size-in, no-size, sizes-length, size-at, size-of, size-not, both-standings}
 use Rattle.group.proofs.Bearing.{Toward, Bears}
 
@@ -103,7 +103,7 @@ module _ (e : ℤ) (n1 : List ℤ) (class : List ℕ) (bears : Bears e n1 class)
   module _ (classed : Classed n1 class) where
     -- step 2 of each unit, past the end too
     step2-at : (i : ℕ) → at (step2All e n1 class) i ≡ nearerBy (directionOf e) (at n1 i) (lossAt e n1 class i)
-    unfolding step2All taken
+    unfolding step2All takenOff
     step2-at i = go (decLt i (length n1))
       where
         f : ℕ → ℤ
@@ -169,7 +169,7 @@ module _ (e : ℤ) (n1 : List ℤ) (class : List ℕ) (bears : Bears e n1 class)
       unfolding cutsFor
       fair-here i h l =
           let s : List ℕ = sizesOf (directionOf e) k n1 class in
-          fair s (shareOf e k n1 class) (omega (arith, size-here i h, sum-entry s i)) (share-bearable k)
+          cuts-fair s (shareOf e k n1 class) (omega (arith, size-here i h, sum-entry s i)) (share-bearable k)
 
       pub near : (i : ℕ) → standing k (getD class i 0) ≡ true → 0 < sizeIn (directionOf e) (at n1 i) → let t = sum (sizesOf (directionOf e) k n1 class) in
           (lossAt e n1 class i * t < shareOf e k n1 class * sizeIn (directionOf e) (at n1 i) + t)

@@ -15,8 +15,8 @@ use Rattle.numbers.proofs.Sums.{sumZ-column}
 use Rattle.terms.specs.declared.quantity.Direction.{Direction}
 use Rattle.terms.specs.declared.quantity.Direction.the-variants.{Injections, Withdrawals}
 use Rattle.group.specs.Steps.{bandOf, excessOf, directionOf, nearerBy}
-use Rattle.group.specs.Group.{taken, step2All}
-use Rattle.group.specs.Asked.{Classed, lossAt}
+use Rattle.group.specs.Group.{takenOff, step2All}
+use Rattle.group.specs.Inner.{Classed, lossAt}
 use Rattle.group.specs.declared.band.Band.{Band}
 use Rattle.group.proofs.Bands.{low-zero, high-zero}
 use Rattle.group.proofs.Bearing.{Bears, excess-ind}
@@ -42,7 +42,7 @@ less e s =
     (λ h. omega (zarith, minus s e, minus s (pos (natAbs e)), abs-z e, one-side e))
 
 pub sum-less : (e : ℤ) (n1 : List ℤ) (class : List ℕ) → Bears e n1 class → Classed n1 class → sumZ (step2All e n1 class) ≡ sumZ n1 -ℤ e
-unfolding step2All taken
+unfolding step2All takenOff
 sum-less e n1 class bears classed =
     sum-nearer (directionOf e) (at n1) (lossAt e n1 class) (length n1)
     ∙ ap₂ (nearerBy (directionOf e)) (ap sumZ (sym (column-self (pos 0) n1))) (losses e n1 class bears classed)

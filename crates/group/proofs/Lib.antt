@@ -8,10 +8,10 @@ pub mod Ranges
 pub mod Uncut
 pub mod Through
 pub mod Losses
+pub mod Landing
 pub mod Judging
 pub mod Accepting
 pub mod Replying
-pub mod Landing
 pub mod Margins
 pub mod Demand3
 pub mod Unique

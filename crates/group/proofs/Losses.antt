@@ -1,18 +1,18 @@
 -- The column of what every unit loses: a quantity for each unit, and taken off n1 it leaves step 2.
 use Prim.Native.Nat.{ℕ, _≤_, _<_}
-use mathlib.Core.Path.{_≡_, sym, ap, _∙_}
+use mathlib.Core.Path.{_≡_, ap}
 use mathlib.Core.List.{List, _++_}
 use native.Mathlib.Omega.{arith}
 use native.Mathlib.Decide.{decLt}
-use lib.IntN.{ℤ, pos}
-use lib.ListN.{length, getD, take, drop, replicate, getD-replicate, length-append}
-use lib.Seq.{length-take-le, getD-take, take-at}
+use lib.IntN.{ℤ}
+use lib.ListN.{length, getD, take, drop, replicate, length-append}
+use lib.Seq.{take-at}
 use Rattle.numbers.specs.Column.{column, at}
 use Rattle.numbers.proofs.Integers.{zarith}
-use Rattle.numbers.proofs.Columns.{column-length, column-at, column-past, column-ext, is-column}
+use Rattle.numbers.proofs.Columns.{column-length, column-at, column-past, column-ext}
 use Rattle.group.specs.Steps.{directionOf, nearerBy}
-use Rattle.group.specs.Group.{taken, step2All}
-use Rattle.group.specs.Asked.{lossAt, lossesOf, left, Bearable, Lost}
+use Rattle.group.specs.Group.{takenOff, step2All}
+use Rattle.group.specs.Inner.{lossAt, lossesOf, leftBy, Bearable, Lost}
 use Rattle.group.proofs.Sides.{size-abs}
 use Rattle.group.proofs.Cuts.{loss-within}
 
@@ -35,30 +35,20 @@ module _ (e : ℤ) (n1 : List ℤ) (class : List ℕ) where
           omega (zarith, loss-at i l, loss-within e n1 class (h .borne) (h .classed) i, size-abs (directionOf e) (at n1 i), h .classed .small i)
       go (no l) = omega (arith, column-past (lossAt e n1 class) (length n1) i 0 (omega arith))
 
-  pub step2-at : (i : ℕ) → i < length n1 → at (step2All e n1 class) i ≡ nearerBy (directionOf e) (at n1 i) (getD (lossesOf e n1 class) i 0)
-  unfolding step2All taken
-  step2-at i l =
-      column-at (λ j. nearerBy (directionOf e) (at n1 j) (lossAt e n1 class j)) (length n1) i (pos 0) l
-      ∙ ap (nearerBy (directionOf e) (at n1 i)) (sym (loss-at i l))
-
-  pub left-is : left (directionOf e) n1 (lossesOf e n1 class) ≡ step2All e n1 class
-  unfolding left step2All taken
+  pub left-is : leftBy (directionOf e) n1 (lossesOf e n1 class) ≡ step2All e n1 class
+  unfolding leftBy step2All takenOff
   left-is = column-ext _ _ (length n1) (λ i l. ap (nearerBy (directionOf e) (at n1 i)) (loss-at i l))
 
   pub lost : {n2 : List ℤ} → Bearable e n1 class → length n2 ≡ length n1 → Lost n1 (lossesOf e n1 class) n2
   lost h l = record { small = h .classed .small; losses-places = losses-length; losses-small = losses-small h; places = l }
 
--- the first n places of a column of 64 zeros, lent to be written and lent again to be read
-abbrev zeros : List ℕ
-zeros = replicate 64 0
+-- the first n of 64 places, lent to be written and lent again to be read
+abbrev places : List ℕ
+places = replicate 64 0
 
-module _ {n : ℕ} where
-  pub lent : n ≤ 64 → take n zeros ≡ column n (λ i. 0)
-  lent h = is-column (λ i. 0) 0 n (take n zeros) (length-take-le n zeros h) (λ i l. getD-take n zeros i 0 l ∙ getD-replicate 64 i 0 0 (omega arith))
+module _ {n : ℕ} (l : List ℕ) (written : length l ≡ n) where
+  pub room : n ≤ length (l ++ drop n places)
+  room = omega (arith, length-append l (drop n places))
 
-  module _ (l : List ℕ) (places : length l ≡ n) where
-    pub room : n ≤ length (l ++ drop n zeros)
-    room = omega (arith, length-append l (drop n zeros))
-
-    pub lent-again : take n (l ++ drop n zeros) ≡ l
-    lent-again = take-at l (drop n zeros) n places
+  pub lent-again : take n (l ++ drop n places) ≡ l
+  lent-again = take-at l (drop n places) n written

@@ -13,8 +13,9 @@ use Rattle.numbers.specs.Choice.{pick}
 use Rattle.numbers.specs.Column.{column, at}
 use Rattle.numbers.proofs.Integers.{zarith, pp, nn, by-test, one-side, asym}
 use Rattle.numbers.proofs.Columns.{column-at, column-past}
+use Rattle.terms.specs.declared.quantity.Margins.{Margins}
 use Rattle.group.specs.Steps.{step1Of, step3Of}
-use Rattle.group.specs.Group.{step1All, step3All}
+use Rattle.group.specs.Group.{marginsAt, step1All, step3All}
 use Rattle.group.proofs.Bearing.{Toward}
 
 -- one of three, by a test on each side of zero: step 1 and step 3 are of this form
@@ -30,13 +31,29 @@ clamp-ind P n x y s t p q r v z =
     (λ b. by-test t (λ k. P (pick k y n)) (λ k. r b k) (λ k. v b k))
     (λ b. z a b))
 
--- z is at zero, or within the margins
-abbrev pub Inside : ℤ → ℤ → ℤ → Type 0
-Inside down up z = (z ≡ pos 0) ⊎ ((leZ down z ≡ true) × (leZ z up ≡ true))
+-- the same choice with each side made by itself
+pub by-sides : (n x y : ℤ) (s t : Bool) → pick (ltZ (pos 0) n) (pick s x n) (pick (ltZ n (pos 0)) (pick t y n) n) ≡ pick (ltZ (pos 0) n && s) x (pick (ltZ n (pos 0) && t) y n)
+by-sides n x y s t =
+    clamp-ind (λ z. pick (ltZ (pos 0) n) (pick s x n) (pick (ltZ n (pos 0)) (pick t y n) n) ≡ z) n x y s t
+    (λ a b. simp (a, b))
+    (λ a b. simp (a, b))
+    (λ a b. simp (a, b, asym n (pos 0) a))
+    (λ a b. simp (a, b, asym n (pos 0) a))
+    (λ a b. simp (a, b))
 
-module _ (n m down up : ℤ) (ordered : leZ down up ≡ true) where
+-- z is at zero, or within the margins
+abbrev pub Inside : Margins → ℤ → Type 0
+Inside m z = (z ≡ pos 0) ⊎ ((leZ (m .«step_down») z ≡ true) × (leZ z (m .«step_up») ≡ true))
+
+module _ (n k : ℤ) (m : Margins) (ordered : leZ (m .«step_down») (m .«step_up») ≡ true) where
+  abbrev down : ℤ
+  down = m .«step_down»
+
+  abbrev up : ℤ
+  up = m .«step_up»
+
   -- what step 1 leaves: not above M+ where positive, not below M- where negative
-  capped : (pp (step1Of n down up) ≤ pp up) × (nn (step1Of n down up) ≤ nn down)
+  capped : (pp (step1Of n m) ≤ pp up) × (nn (step1Of n m) ≤ nn down)
   capped =
       clamp-ind (λ z. (pp z ≤ pp up) × (nn z ≤ nn down)) n up down (ltZ up n) (ltZ n down)
       (λ a b. omega (zarith, one-side up, one-side down))
@@ -45,31 +62,31 @@ module _ (n m down up : ℤ) (ordered : leZ down up ≡ true) where
       (λ a b. omega (zarith, one-side n, one-side down))
       (λ a b. omega (zarith, one-side n))
 
-  inside : Toward m (step1Of n down up) → Inside down up (step3Of m down up)
+  inside : Toward k (step1Of n m) → Inside m (step3Of k m)
   inside t =
-      let k = capped in
-      clamp-ind (Inside down up) m down up (ltZ m down) (ltZ up m)
+      let c = capped in
+      clamp-ind (Inside m) k down up (ltZ k down) (ltZ up k)
       (λ a b. inr (omega zarith))
-      (λ a b. inr (omega (zarith, one-side m, one-side up)))
+      (λ a b. inr (omega (zarith, one-side k, one-side up)))
       (λ a b. inr (omega zarith))
-      (λ a b. inr (omega (zarith, one-side m, one-side down)))
-      (λ a b. inl (omega (zarith, one-side m)))
+      (λ a b. inr (omega (zarith, one-side k, one-side down)))
+      (λ a b. inl (omega (zarith, one-side k)))
 
 -- the same of every unit of a group
 module _ (n0 n2 stepDown stepUp : List ℤ) (ordered : (i : ℕ) → leZ (at stepDown i) (at stepUp i) ≡ true)
     (toward : (i : ℕ) → Toward (at n2 i) (at (step1All n0 stepDown stepUp) i)) (places : length n2 ≡ length n0) where
-  pub all-inside : (i : ℕ) → Inside (at stepDown i) (at stepUp i) (at (step3All n2 stepDown stepUp) i)
+  pub all-inside : (i : ℕ) → Inside (marginsAt stepDown stepUp i) (at (step3All n2 stepDown stepUp) i)
   unfolding step1All step3All
   all-inside i = go (decLt i (length n0))
     where
       f : ℕ → ℤ
-      f j = step1Of (at n0 j) (at stepDown j) (at stepUp j)
+      f j = step1Of (at n0 j) (marginsAt stepDown stepUp j)
 
       h : ℕ → ℤ
-      h j = step3Of (at n2 j) (at stepDown j) (at stepUp j)
+      h j = step3Of (at n2 j) (marginsAt stepDown stepUp j)
 
-      go : Dec (i < length n0) → Inside (at stepDown i) (at stepUp i) (at (column (length n2) h) i)
+      go : Dec (i < length n0) → Inside (marginsAt stepDown stepUp i) (at (column (length n2) h) i)
       go (yes l) =
           rw (column-at h (length n2) i (pos 0) (omega arith))
-          (inside (at n0 i) (at n2 i) (at stepDown i) (at stepUp i) (ordered i) (rw (column-at f (length n0) i (pos 0) l) at (toward i)))
+          (inside (at n0 i) (at n2 i) (marginsAt stepDown stepUp i) (ordered i) (rw (column-at f (length n0) i (pos 0) l) at (toward i)))
       go (no l) = inl (column-past h (length n2) i (pos 0) (omega arith))

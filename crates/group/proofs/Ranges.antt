@@ -14,10 +14,11 @@ use Rattle.numbers.proofs.Integers.{zarith}
 use Rattle.numbers.proofs.Columns.{column-length, column-within}
 use Rattle.terms.specs.declared.quantity.Standing.{Standing}
 use Rattle.terms.specs.declared.quantity.Direction.{Direction}
-use Rattle.quota.specs.Quota.{Sized}
+use Rattle.quota.specs.Inner.{Sized}
 use Rattle.group.specs.Steps.{directionOf, nearerBy, step1Of, step3Of}
-use Rattle.group.specs.Group.{sizeOf, sizesOf, taken, step1All, step2All, step3All}
-use Rattle.group.specs.Asked.{Classed, lossAt}
+use Rattle.terms.specs.declared.quantity.Margins.{Margins}
+use Rattle.group.specs.Group.{marginsAt, sizeOf, sizesOf, takenOff, step1All, step2All, step3All}
+use Rattle.group.specs.Inner.{Aligned, Classed, lossAt}
 use Rattle.group.proofs.Sides.{sizes-length, size-le, size-at, size-abs}
 use Rattle.group.proofs.Bearing.{Bears}
 use Rattle.group.proofs.Cuts.{nearer, loss-within}
@@ -28,33 +29,43 @@ one-of true t p q r = p
 one-of false true p q r = q
 one-of false false p q r = r
 
-pub step1-within : (b : ℕ) (n stepDown stepUp : ℤ) → Within b n → Within b stepDown → Within b stepUp → Within b (step1Of n stepDown stepUp)
-step1-within b n stepDown stepUp p q r = one-of (ltZ (pos 0) n && ltZ stepUp n) (ltZ n (pos 0) && ltZ n stepDown) r q p
+pub step1-within : (b : ℕ) (n : ℤ) (m : Margins) → Within b n → Within b (m .«step_down») → Within b (m .«step_up») → Within b (step1Of n m)
+step1-within b n m p q r = one-of (ltZ (pos 0) n && ltZ (m .«step_up») n) (ltZ n (pos 0) && ltZ n (m .«step_down»)) r q p
 
-pub step3-within : (b : ℕ) (n stepDown stepUp : ℤ) → Within b n → Within b stepDown → Within b stepUp → Within b (step3Of n stepDown stepUp)
-step3-within b n stepDown stepUp p q r = one-of (ltZ (pos 0) n && ltZ n stepDown) (ltZ n (pos 0) && ltZ stepUp n) q r p
+pub step3-within : (b : ℕ) (n : ℤ) (m : Margins) → Within b n → Within b (m .«step_down») → Within b (m .«step_up») → Within b (step3Of n m)
+step3-within b n m p q r = one-of (ltZ (pos 0) n && ltZ n (m .«step_down»)) (ltZ n (pos 0) && ltZ (m .«step_up») n) q r p
 
 module _ (n stepDown stepUp : List ℤ) where
+  -- steps 1 and 3 of the unit of an index
+  abbrev pub firstAt : ℕ → ℤ
+  firstAt i = step1Of (at n i) (marginsAt stepDown stepUp i)
+
+  abbrev pub thirdAt : ℕ → ℤ
+  thirdAt i = step3Of (at n i) (marginsAt stepDown stepUp i)
+
   pub step1-length : length (step1All n stepDown stepUp) ≡ length n
   unfolding step1All
-  step1-length = column-length (λ i. step1Of (at n i) (at stepDown i) (at stepUp i)) (length n)
+  step1-length = column-length firstAt (length n)
 
   pub step3-length : length (step3All n stepDown stepUp) ≡ length n
   unfolding step3All
-  step3-length = column-length (λ i. step3Of (at n i) (at stepDown i) (at stepUp i)) (length n)
+  step3-length = column-length thirdAt (length n)
 
   module _ (small : AllWithin 1000000 n) (down-small : AllWithin 1000000 stepDown) (up-small : AllWithin 1000000 stepUp) where
     pub step1-small : AllWithin 1000000 (step1All n stepDown stepUp)
     unfolding step1All
-    step1-small =
-        column-within 1000000 (λ i. step1Of (at n i) (at stepDown i) (at stepUp i)) (length n)
-        (λ i. step1-within 1000000 (at n i) (at stepDown i) (at stepUp i) (small i) (down-small i) (up-small i))
+    step1-small = column-within 1000000 firstAt (length n) (λ i. step1-within 1000000 (at n i) (marginsAt stepDown stepUp i) (small i) (down-small i) (up-small i))
 
     pub step3-small : AllWithin 1000000 (step3All n stepDown stepUp)
     unfolding step3All
-    step3-small =
-        column-within 1000000 (λ i. step3Of (at n i) (at stepDown i) (at stepUp i)) (length n)
-        (λ i. step3-within 1000000 (at n i) (at stepDown i) (at stepUp i) (small i) (down-small i) (up-small i))
+    step3-small = column-within 1000000 thirdAt (length n) (λ i. step3-within 1000000 (at n i) (marginsAt stepDown stepUp i) (small i) (down-small i) (up-small i))
+
+module _ {n stepDown stepUp out : List ℤ} (h : Aligned n stepDown stepUp out) where
+  pub first-small : (i : ℕ) → Within 1000000 (firstAt n stepDown stepUp i)
+  first-small i = step1-within 1000000 (at n i) (marginsAt stepDown stepUp i) (h .small i) (h .down-small i) (h .up-small i)
+
+  pub third-small : (i : ℕ) → Within 1000000 (thirdAt n stepDown stepUp i)
+  third-small i = step3-within 1000000 (at n i) (marginsAt stepDown stepUp i) (h .small i) (h .down-small i) (h .up-small i)
 
 module _ {n1 : List ℤ} {class : List ℕ} (h : Classed n1 class) where
   pub size-small : (d : Direction) (k : Standing) (i : ℕ) → sizeOf d k (getD class i 0) (at n1 i) ≤ 1000000
@@ -69,11 +80,11 @@ module _ {n1 : List ℤ} {class : List ℕ} (h : Classed n1 class) where
 
 module _ (e : ℤ) (n1 : List ℤ) (class : List ℕ) where
   pub step2-length : length (step2All e n1 class) ≡ length n1
-  unfolding step2All taken
+  unfolding step2All takenOff
   step2-length = column-length (λ i. nearerBy (directionOf e) (at n1 i) (lossAt e n1 class i)) (length n1)
 
   pub step2-small : Classed n1 class → Bears e n1 class → AllWithin 1000000 (step2All e n1 class)
-  unfolding step2All taken
+  unfolding step2All takenOff
   step2-small h bears =
       column-within 1000000 (λ i. nearerBy (directionOf e) (at n1 i) (lossAt e n1 class i)) (length n1)
       (λ i. omega (zarith, nearer (directionOf e) (at n1 i) (lossAt e n1 class i) (loss-within e n1 class bears h i), h .small i))

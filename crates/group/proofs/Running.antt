@@ -1,18 +1,59 @@
--- A sum of quantities that a loop keeps in 32 bits: the first entries of a column, of which there are at most 64.
+-- Loops that fill a column place by place, and that keep the sum of what they fill in 32 bits: the first i places are those of the column, at the start, after a turn and at the end.
 use Prim.Native.Nat.{ℕ, zero, suc, _+_, _*_, _≤_, _<_}
-use mathlib.Core.Path.{_≡_}
+use mathlib.Core.Path.{_≡_, refl, ap, _∙_}
+use mathlib.Core.List.{List, _++_}
 use native.Mathlib.Numerals.{add-one}
-use lib.IntN.{ℤ, _+ℤ_}
+use native.Mathlib.Omega.{arith}
+use lib.IntN.{ℤ, pos, _+ℤ_}
+use lib.ListN.{length, getD, drop, set, length-set}
+use lib.Seq.{drop-cons, getD-at}
 use mir.Syntax.{w32}
-use mir.Val.{SFits}
+use mir.Val.{SFits, toZ, ofZ}
+use mir.Facts.{toZ-ofZ}
 use Rattle.numbers.specs.Range.{Within}
 use Rattle.numbers.specs.Column.{column}
 use Rattle.numbers.specs.Sum.{sumZ}
 use Rattle.numbers.proofs.Integers.{zarith, plus}
+use Rattle.numbers.proofs.Columns.{column-length, column-none, column-more, column-all}
 use Rattle.numbers.proofs.Sums.{sumZ-column}
 
-pub run-more : (f : ℕ → ℤ) (i : ℕ) → sumZ (column (i + 1) f) ≡ sumZ (column i f) +ℤ f i
-run-more f i = rw add-one (sumZ-column f i)
+-- of a lent column l the first i places are filled by f, and the others are as they were
+pub record Filled {X : Type 0} (f : ℕ → X) (n : ℕ) (l m : List X) (i : ℕ) : Type 0 where
+  pub some : i ≤ n
+  pub places : length m ≡ length l
+  pub filled : m ≡ column i f ++ drop i l
+
+pub filled-start : {X : Type 0} (f : ℕ → X) (n : ℕ) (l : List X) → Filled f n l l 0
+filled-start f n l = record { some = omega arith; places = refl; filled = column-none f l }
+
+module _ {X : Type 0} {f : ℕ → X} {n : ℕ} {l m : List X} {i : ℕ} (h : Filled f n l m i) (lent : length l ≡ n) where
+  -- the place that is filled next is as it was
+  pub filled-next : (d : X) → i < n → getD m i d ≡ getD l i d
+  filled-next d t =
+      let s : i < length l = omega arith in
+      ap (λ (k : List X). getD k i d) (h .filled) ∙ rw (drop-cons l i d s) (getD-at (column i f) (getD l i d) (drop (suc i) l) d i (column-length f i))
+
+  pub filled-turn : {v : X} (d : X) → v ≡ f i → i < n → Filled f n l (set m i v) (i + 1)
+  filled-turn d e t =
+      record {
+        some = omega arith;
+        places = simp length-set (h .places);
+        filled = rw (e, h .filled) (column-more f i l d (omega arith));
+      }
+
+  pub filled-end : n ≤ i → m ≡ column n f
+  filled-end t =
+      let e : i ≡ n = omega (arith, h .some) in
+      h .filled ∙ rw e (column-all f l n lent)
+
+-- and s is the sum of what is filled, as 32 bits
+pub record Run (f : ℕ → ℤ) (n : ℕ) (l m : List ℤ) (s i : ℕ) : Type 0 where
+  pub places : Filled f n l m i
+  pub sum : s ≡ ofZ w32 (sumZ (column i f))
+
+pub run-start : (f : ℕ → ℤ) (n : ℕ) (l : List ℤ) → Run f n l l 0 0
+unfolding sumZ column
+run-start f n l = record { places = filled-start f n l; sum = refl }
 
 module _ (f : ℕ → ℤ) (small : (k : ℕ) → Within 1000000 (f k)) where
   run-within : (i : ℕ) → Within (i * 1000000) (sumZ (column i f))
@@ -20,8 +61,20 @@ module _ (f : ℕ → ℤ) (small : (k : ℕ) → Within 1000000 (f k)) where
   run-within zero = omega zarith
   run-within (suc i) = rw (sumZ-column f i) (omega (zarith, run-within i, small i, plus (sumZ (column i f)) (f i)))
 
-  pub run-fits : (i : ℕ) → i ≤ 64 → SFits w32 (sumZ (column i f))
+  run-fits : (i : ℕ) → i ≤ 64 → SFits w32 (sumZ (column i f))
   run-fits i l = omega (zarith, run-within i)
 
-  pub next-fits : (i : ℕ) → i < 64 → SFits w32 (sumZ (column i f) +ℤ f i)
-  next-fits i l = omega (zarith, run-within i, small i, plus (sumZ (column i f)) (f i))
+module _ {f : ℕ → ℤ} {n : ℕ} {l m : List ℤ} {s i : ℕ} (small : (k : ℕ) → Within 1000000 (f k)) (few : n ≤ 64) (h : Run f n l m s i) where
+  run-back : toZ w32 s ≡ sumZ (column i f)
+  run-back = rw (h .sum) (toZ-ofZ (run-fits f small i (omega (arith, h .places .some))))
+
+  pub run-adds : {v : ℤ} → v ≡ f i → i < n → SFits w32 (toZ w32 s +ℤ v)
+  run-adds e t = rw (run-back, e) (omega (zarith, run-within f small i, small i, plus (sumZ (column i f)) (f i)))
+
+  pub run-turn : {v : ℤ} → v ≡ f i → i < n → length l ≡ n → Run f n l (set m i v) (ofZ w32 (toZ w32 s +ℤ v)) (i + 1)
+  run-turn e t lent = record { places = filled-turn (h .places) lent (pos 0) e t; sum = rw (run-back, e, add-one i, sumZ-column f i) }
+
+  pub run-end : n ≤ i → length l ≡ n → (toZ w32 s ≡ sumZ (column n f)) × (m ≡ column n f)
+  run-end t lent =
+      let e : i ≡ n = omega (arith, h .places .some) in
+      (rw e at run-back, filled-end (h .places) lent t)

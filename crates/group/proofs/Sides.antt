@@ -5,6 +5,7 @@ use mathlib.Core.Bool.{true, false}
 use mathlib.Core.List.{List}
 use native.Mathlib.Omega.{arith}
 use native.Mathlib.Decide.{decLt}
+use borrow.Author.Tests.{leb-true}
 use lib.IntN.{ℤ, pos, natAbs}
 use lib.ListN.{length, getD, List·getD-eq-default}
 use lib.Signed.{ltZ}
@@ -14,13 +15,13 @@ use Rattle.numbers.proofs.Integers.{zarith, pp, nn, abs-z, one-side}
 use Rattle.numbers.proofs.Choices.{pick-ind, pick-le}
 use Rattle.numbers.proofs.Columns.{column-length, column-at, column-past}
 use Rattle.numbers.proofs.Sums.{sumTo-cong, sumTo-add, sum-column, sum-sides}
-use Rattle.terms.specs.Quantities.{standing, sizeIn}
+use Rattle.terms.specs.Quantities.{standing, knownClass, sizeIn}
 use Rattle.terms.specs.declared.quantity.Standing.{Standing}
 use Rattle.terms.specs.declared.quantity.Standing.the-variants.{NotEnabled, Enabled}
 use Rattle.terms.specs.declared.quantity.Direction.{Direction}
 use Rattle.terms.specs.declared.quantity.Direction.the-variants.{Injections, Withdrawals}
 use Rattle.group.specs.Group.{sizeOf, sizesOf}
-use Rattle.group.specs.Asked.{Classed}
+use Rattle.group.specs.Inner.{Classed}
 
 abbrev pub side : Direction → ℤ → ℕ
 side Injections z = pp z
@@ -77,11 +78,11 @@ unfolding sizeOf
 size-not d k class z e = rw e
 
 -- each unit has one of the two standings
-pub both-standings : (d : Direction) (class : ℕ) (z : ℤ) → class ≤ 1 → sizeOf d NotEnabled class z + sizeOf d Enabled class z ≡ sizeIn d z
+pub both-standings : (d : Direction) (class : ℕ) (z : ℤ) → knownClass class ≡ true → sizeOf d NotEnabled class z + sizeOf d Enabled class z ≡ sizeIn d z
 unfolding sizeOf
 both-standings d zero z h = omega arith
 both-standings d (suc zero) z h = omega arith
-both-standings d (suc (suc class)) z h = absurd (omega arith)
+both-standings d (suc (suc class)) z h = absurd (omega (arith, leb-true (suc (suc class)) 1 h))
 
 -- so their sizes add up to the direction's total
 pub both-totals : (d : Direction) {n1 : List ℤ} {class : List ℕ} → Classed n1 class

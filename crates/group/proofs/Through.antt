@@ -16,11 +16,12 @@ use Rattle.numbers.proofs.Columns.{column-ext, column-self}
 use Rattle.terms.specs.Quantities.{standing, sizeIn}
 use Rattle.terms.specs.declared.quantity.Standing.the-variants.{NotEnabled, Enabled}
 use Rattle.terms.specs.declared.quantity.Direction.{Direction}
-use Rattle.quota.specs.Quota.{cutsOf, Asked}
+use Rattle.quota.specs.Quota.{cutsOf}
+use Rattle.quota.specs.Inner.{Asked}
 use Rattle.quota.proofs.Fairness.{length-cuts}
 use Rattle.group.specs.Steps.{directionOf}
 use Rattle.group.specs.Group.{sizesOf, shareOf, cutsFor}
-use Rattle.group.specs.Asked.{Bearable, SharedOut, lossOf, lossAt, lossesOf}
+use Rattle.group.specs.Inner.{Bearable, SharedOut, lossOf, lossAt, lossesOf}
 use Rattle.group.proofs.Sides.{sizes-length, size-of, size-not}
 use Rattle.group.proofs.Cuts.{all-cut, cut-within, loss-of}
 use Rattle.group.proofs.Ranges.{sizes-sized}

@@ -1,20 +1,21 @@
--- Where nothing is cut no unit loses anything.
+-- Where there is no excess no unit loses anything, so step 2 leaves every unit as it is.
 use Prim.Native.Nat.{ℕ, _-_, _<_, min}
-use mathlib.Core.Path.{_≡_, ap, _∙_}
+use mathlib.Core.Path.{_≡_, sym, ap, _∙_}
 use mathlib.Core.List.{List}
 use native.Mathlib.Omega.{arith}
 use native.Mathlib.Decide.{decLt}
-use lib.IntN.{ℤ, pos}
+use lib.IntN.{ℤ, pos, _-ℤ_}
 use lib.ListN.{length, getD}
-use Rattle.numbers.specs.Column.{column}
+use Rattle.numbers.specs.Column.{column, at}
 use Rattle.numbers.specs.Sum.{sum}
-use Rattle.numbers.proofs.Columns.{column-at, column-past, column-ext}
+use Rattle.numbers.proofs.Integers.{zarith, minus}
+use Rattle.numbers.proofs.Columns.{column-at, column-past, column-ext, column-self}
 use Rattle.terms.specs.declared.quantity.Standing.the-variants.{NotEnabled, Enabled}
 use Rattle.quota.specs.Quota.{cutAt, cutsOf}
 use Rattle.quota.proofs.Fairness.{nothing}
 use Rattle.group.specs.Steps.{directionOf}
-use Rattle.group.specs.Group.{sizesOf, shareOf, cutsFor}
-use Rattle.group.specs.Asked.{lossAt, lossesOf}
+use Rattle.group.specs.Group.{sizesOf, shareOf, cutsFor, takenOff, step2All}
+use Rattle.group.specs.Inner.{lossAt}
 
 pub none-at : (sizes : List ℕ) (i : ℕ) → getD (cutsOf sizes 0) i 0 ≡ 0
 unfolding cutsOf
@@ -24,15 +25,22 @@ none-at sizes i = go (decLt i (length sizes))
     go (yes l) = column-at (cutAt sizes 0) (length sizes) i 0 l ∙ nothing sizes i
     go (no l) = column-past (cutAt sizes 0) (length sizes) i 0 (omega arith)
 
--- with no excess no unit loses anything
-pub uncut : (n1 : List ℤ) (class : List ℕ) → column (length n1) (λ i. 0) ≡ lossesOf (pos 0) n1 class
-unfolding lossesOf cutsFor shareOf
-uncut n1 class =
-    let d = directionOf (pos 0) in
-    let first = sizesOf d NotEnabled n1 class in
-    let second = sizesOf d Enabled n1 class in
-    let m : min 0 (sum first) ≡ 0 = omega arith in
-    let k : 0 - min 0 (sum first) ≡ 0 = omega arith in
-    let p : (i : ℕ) → getD (cutsFor (pos 0) NotEnabled n1 class) i 0 ≡ 0 = λ i. ap (λ x. getD (cutsOf first x) i 0) m ∙ none-at first i in
-    let q : (i : ℕ) → getD (cutsFor (pos 0) Enabled n1 class) i 0 ≡ 0 = λ i. ap (λ x. getD (cutsOf second x) i 0) k ∙ none-at second i in
-    column-ext (λ i. 0) (lossAt (pos 0) n1 class) (length n1) (λ i _. omega (arith, p i, q i))
+module _ (n1 : List ℤ) (class : List ℕ) where
+  loss-none : (i : ℕ) → lossAt (pos 0) n1 class i ≡ 0
+  unfolding cutsFor shareOf
+  loss-none i =
+      let first = sizesOf (directionOf (pos 0)) NotEnabled n1 class in
+      let second = sizesOf (directionOf (pos 0)) Enabled n1 class in
+      let m : min 0 (sum first) ≡ 0 = omega arith in
+      let k : 0 - min 0 (sum first) ≡ 0 = omega arith in
+      let p : getD (cutsFor (pos 0) NotEnabled n1 class) i 0 ≡ 0 = ap (λ x. getD (cutsOf first x) i 0) m ∙ none-at first i in
+      let q : getD (cutsFor (pos 0) Enabled n1 class) i 0 ≡ 0 = ap (λ x. getD (cutsOf second x) i 0) k ∙ none-at second i in
+      omega arith
+
+  -- so step 2 leaves every unit as it is
+  pub uncut : step2All (pos 0) n1 class ≡ n1
+  unfolding step2All takenOff
+  uncut =
+      column-ext (λ i. at n1 i -ℤ pos (lossAt (pos 0) n1 class i)) (at n1) (length n1)
+      (λ i _. rw (loss-none i) (omega (zarith, minus (at n1 i) (pos 0))))
+      ∙ sym (column-self (pos 0) n1)

@@ -4,13 +4,11 @@ use mathlib.Core.Bool.{Bool, true, false, _&&_}
 use mathlib.Core.List.{List, [], _∷_, map}
 use lib.Dec.{eqb}
 use lib.IntN.{ℤ, pos, negℤ}
-use lib.ListN.{length, getD}
 use Rattle.numbers.specs.Choice.{eqZ}
-use Rattle.numbers.specs.Column.{column, at}
+use Rattle.numbers.specs.Sum.{bit}
 use Rattle.terms.specs.Reply.{Reply, is, refused}
 use Rattle.terms.specs.Quantities.{implicit, consideredOf}
-use Rattle.group.specs.Steps as rule
-use Rattle.group.specs.Group.{Group, n1, n2, n3}
+use Rattle.group.specs.Group.{Group, n1, n2, n3, reasons}
 use Rattle.group.specs.Columns.{judgeOf}
 use Rattle.group.specs.declared.judge.Sums.{Sums}
 
@@ -44,7 +42,7 @@ pub data Told : Type 0 where
   n1s : List ℤ → Told
   n2s : List ℤ → Told
   n3s : List ℤ → Told
-  reasons : List ℕ → Told
+  whys : List ℕ → Told
   verdict : ℕ → Told
   p : ℤ → Told
   s1 : ℤ → Told
@@ -56,27 +54,27 @@ pub data Figure : Type 0 where
   row : List Fields → List Told → Figure
 
 -- where margins are wide n3 is n2
-abbrev pub left : List ℤ → List Told
-left v = n2s v ∷ n3s v ∷ []
+abbrev pub leaves : List ℤ → List Told
+leaves v = n2s v ∷ n3s v ∷ []
 
 -- where a figure tells P and not each PC, the first unit's PC is P
 unfoldable pub figures : List Figure
 figures =
     -- 5, 5; P -9: 4, 5.
-    row (plain (pos 5) (neg 9) ∷ plain (pos 5) (pos 0) ∷ []) (left (pos 4 ∷ pos 5 ∷ []))
+    row (plain (pos 5) (neg 9) ∷ plain (pos 5) (pos 0) ∷ []) (leaves (pos 4 ∷ pos 5 ∷ []))
     -- 1, 1, 1; P -2: 0, 1, 1.
-    ∷ row (plain (pos 1) (neg 2) ∷ plain (pos 1) (pos 0) ∷ plain (pos 1) (pos 0) ∷ []) (left (pos 0 ∷ pos 1 ∷ pos 1 ∷ []))
+    ∷ row (plain (pos 1) (neg 2) ∷ plain (pos 1) (pos 0) ∷ plain (pos 1) (pos 0) ∷ []) (leaves (pos 0 ∷ pos 1 ∷ pos 1 ∷ []))
     -- 3, -5; P 0: 3, -3.
-    ∷ row (plain (pos 3) (pos 0) ∷ plain (neg 5) (pos 0) ∷ []) (left (pos 3 ∷ neg 3 ∷ []))
+    ∷ row (plain (pos 3) (pos 0) ∷ plain (neg 5) (pos 0) ∷ []) (leaves (pos 3 ∷ neg 3 ∷ []))
     -- 4, -9; P -10: 4, -4, balance 10.
-    ∷ row (plain (pos 4) (neg 10) ∷ plain (neg 9) (pos 0) ∷ []) (balance (pos 10) ∷ left (pos 4 ∷ neg 4 ∷ []))
+    ∷ row (plain (pos 4) (neg 10) ∷ plain (neg 9) (pos 0) ∷ []) (balance (pos 10) ∷ leaves (pos 4 ∷ neg 4 ∷ []))
     -- 6 class 0, 10 class 1; P -7: 0, 7.
-    ∷ row (plain (pos 6) (neg 7) ∷ nominated 1 (pos 10) (pos 0) (neg 1000000) (pos 1000000) ∷ []) (left (pos 0 ∷ pos 7 ∷ []))
+    ∷ row (plain (pos 6) (neg 7) ∷ nominated 1 (pos 10) (pos 0) (neg 1000000) (pos 1000000) ∷ []) (leaves (pos 0 ∷ pos 7 ∷ []))
     -- 10, M- -80, M+ -50; P 40: n1 -50, n2 -40, n3 -50, balance 10, verdict 6, reason 14.
     ∷ row (nominated 0 (pos 10) (pos 40) (neg 80) (neg 50) ∷ [])
-    (n1s (neg 50 ∷ []) ∷ n2s (neg 40 ∷ []) ∷ n3s (neg 50 ∷ []) ∷ balance (pos 10) ∷ verdict 6 ∷ reasons (14 ∷ []) ∷ [])
+    (n1s (neg 50 ∷ []) ∷ n2s (neg 40 ∷ []) ∷ n3s (neg 50 ∷ []) ∷ balance (pos 10) ∷ verdict 6 ∷ whys (14 ∷ []) ∷ [])
     -- The same with P 0: n3 0, reason 22.
-    ∷ row (nominated 0 (pos 10) (pos 0) (neg 80) (neg 50) ∷ []) (n3s (pos 0 ∷ []) ∷ reasons (22 ∷ []) ∷ [])
+    ∷ row (nominated 0 (pos 10) (pos 0) (neg 80) (neg 50) ∷ []) (n3s (pos 0 ∷ []) ∷ whys (22 ∷ []) ∷ [])
     -- Not nominated, PC -500: n0 500 with coincide 1,
     ∷ row (notNominated 1 (neg 500) ∷ []) (n0s (pos 500 ∷ []) ∷ [])
     -- 0 with coincide 0.
@@ -93,7 +91,7 @@ figures =
     ∷ s2 (pos 13999)
     ∷ s3 (pos 14399)
     ∷ balance (neg 400)
-    ∷ reasons (6 ∷ 12 ∷ 0 ∷ [])
+    ∷ whys (6 ∷ 12 ∷ 0 ∷ [])
     ∷ n0s (pos 5000 ∷ pos 3000 ∷ pos 9000 ∷ [])
     ∷ n1s (pos 4500 ∷ pos 3000 ∷ pos 9000 ∷ [])
     ∷ n2s (pos 2999 ∷ pos 2000 ∷ pos 9000 ∷ [])
@@ -113,10 +111,7 @@ groupOf us =
     }
 
 unfoldable pub reasonsOf : List Fields → List ℕ
-reasonsOf us =
-    let g = groupOf us in
-    let taken = map (λ (u : Fields). implicit (u .nominated) (u .coincide)) us in
-    column (length us) (λ i. rule.reasonOf (getD taken i false) (at (g .n0) i) (at (n1 g) i) (at (n2 g) i) (at (n3 g) i) (at (g .stepDown) i) (at (g .stepUp) i))
+reasonsOf us = reasons (map (λ (u : Fields). bit (implicit (u .nominated) (u .coincide))) us) (groupOf us)
 
 -- tests over lists
 unfoldable pub same : {A : Type 0} → (A → A → Bool) → List A → List A → Bool
@@ -135,7 +130,7 @@ isSo us sums (n0s v) = same eqZ (groupOf us .n0) v
 isSo us sums (n1s v) = same eqZ (n1 (groupOf us)) v
 isSo us sums (n2s v) = same eqZ (n2 (groupOf us)) v
 isSo us sums (n3s v) = same eqZ (n3 (groupOf us)) v
-isSo us sums (reasons v) = same eqb (reasonsOf us) v
+isSo us sums (whys v) = same eqb (reasonsOf us) v
 isSo us sums (verdict v) = eqb (sums .verdict) v
 isSo us sums (p v) = eqZ (sums .p .0) v
 isSo us sums (s1 v) = eqZ (sums .s1 .0) v

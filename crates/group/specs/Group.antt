@@ -7,6 +7,7 @@ use Rattle.numbers.specs.Choice.{pick}
 use Rattle.numbers.specs.Column.{column, at}
 use Rattle.numbers.specs.Sum.{sum, sumZ}
 use Rattle.terms.specs.Quantities.{standing, sizeIn}
+use Rattle.terms.specs.declared.quantity.Margins.{Margins}
 use Rattle.terms.specs.declared.quantity.Standing.{Standing}
 use Rattle.terms.specs.declared.quantity.Standing.the-variants.{NotEnabled, Enabled}
 use Rattle.terms.specs.declared.quantity.Direction.{Direction}
@@ -24,9 +25,13 @@ pub record Group : Type 0 where
 abbrev pub units : Group → ℕ
 units g = length (g .n0)
 
+-- the margins of the unit of an index
+abbrev pub marginsAt : List ℤ → List ℤ → ℕ → Margins
+marginsAt stepDown stepUp i = record { «step_down» = at stepDown i; «step_up» = at stepUp i }
+
 -- step 1 of every unit
 unfoldable pub step1All : List ℤ → List ℤ → List ℤ → List ℤ
-step1All n0 stepDown stepUp = column (length n0) (λ i. rule.step1Of (at n0 i) (at stepDown i) (at stepUp i))
+step1All n0 stepDown stepUp = column (length n0) (λ i. rule.step1Of (at n0 i) (marginsAt stepDown stepUp i))
 
 -- the sizes of the units that stand so in a direction, 0 for every other unit
 unfoldable pub sizeOf : Direction → Standing → ℕ → ℤ → ℕ
@@ -45,16 +50,21 @@ unfoldable pub cutsFor : ℤ → Standing → List ℤ → List ℕ → List ℕ
 cutsFor e k n1 class = cutsOf (sizesOf (rule.directionOf e) k n1 class) (shareOf e k n1 class)
 
 -- a column brought nearer to zero by two columns of cuts
-unfoldable pub taken : Direction → List ℤ → List ℕ → List ℕ → List ℤ
-taken d n1 first second = column (length n1) (λ i. rule.nearerBy d (at n1 i) (getD first i 0 + getD second i 0))
+unfoldable pub takenOff : Direction → List ℤ → List ℕ → List ℕ → List ℤ
+takenOff d n1 first second = column (length n1) (λ i. rule.nearerBy d (at n1 i) (getD first i 0 + getD second i 0))
 
 -- step 2 of every unit
 unfoldable pub step2All : ℤ → List ℤ → List ℕ → List ℤ
-step2All e n1 class = taken (rule.directionOf e) n1 (cutsFor e NotEnabled n1 class) (cutsFor e Enabled n1 class)
+step2All e n1 class = takenOff (rule.directionOf e) n1 (cutsFor e NotEnabled n1 class) (cutsFor e Enabled n1 class)
 
 -- step 3 of every unit
 unfoldable pub step3All : List ℤ → List ℤ → List ℤ → List ℤ
-step3All n2 stepDown stepUp = column (length n2) (λ i. rule.step3Of (at n2 i) (at stepDown i) (at stepUp i))
+step3All n2 stepDown stepUp = column (length n2) (λ i. rule.step3Of (at n2 i) (marginsAt stepDown stepUp i))
+
+-- the reason of every unit, of which a column tells whether its nomination is implicit
+unfoldable pub reasonsAll : List ℕ → List ℤ → List ℤ → List ℤ → List ℤ → List ℤ → List ℤ → List ℕ
+reasonsAll taken n0 n1 n2 n3 stepDown stepUp =
+    column (length n0) (λ i. rule.reasonOf (getD taken i 0) (at n0 i) (at n1 i) (at n2 i) (at n3 i) (marginsAt stepDown stepUp i))
 
 -- a group's P and band, and its n1, n2 and n3
 abbrev pub position : Group → ℤ
@@ -74,3 +84,6 @@ n2 g = step2All (excess g) (n1 g) (g .class)
 
 abbrev pub n3 : Group → List ℤ
 n3 g = step3All (n2 g) (g .stepDown) (g .stepUp)
+
+abbrev pub reasons : List ℕ → Group → List ℕ
+reasons taken g = reasonsAll taken (g .n0) (n1 g) (n2 g) (n3 g) (g .stepDown) (g .stepUp)

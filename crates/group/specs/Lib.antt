@@ -2,5 +2,7 @@
 pub mod Steps
 pub mod Group
 pub mod Columns
-pub mod Asked
+pub mod Accepted
+pub mod Demand3
+pub mod Inner
 pub mod Figures

@@ -5,14 +5,15 @@ use lib.IntN.{ℤ, pos, negℤ, _+ℤ_, _-ℤ_}
 use lib.Signed.{ltZ}
 use Rattle.numbers.specs.Choice.{pick, eqZ}
 use Rattle.group.specs.declared.band.Band.{Band}
+use Rattle.terms.specs.declared.quantity.Margins.{Margins}
 use Rattle.terms.specs.declared.quantity.Direction.{Direction}
 use Rattle.terms.specs.declared.quantity.Direction.the-variants.{Injections, Withdrawals}
 
 -- step 1: an injection above M+ becomes M+, a withdrawal below M- becomes M-; zero is not touched
-abbrev pub step1Of : ℤ → ℤ → ℤ → ℤ
-step1Of n0 stepDown stepUp =
-    pick (ltZ (pos 0) n0 && ltZ stepUp n0) stepUp
-    (pick (ltZ n0 (pos 0) && ltZ n0 stepDown) stepDown
+abbrev pub step1Of : ℤ → Margins → ℤ
+step1Of n0 m =
+    pick (ltZ (pos 0) n0 && ltZ (m .«step_up») n0) (m .«step_up»)
+    (pick (ltZ n0 (pos 0) && ltZ n0 (m .«step_down»)) (m .«step_down»)
     n0)
 
 -- the band for the sum: 0 to -P for a sale, -P to 0 for a purchase, 0 alone when P is 0
@@ -40,10 +41,10 @@ nearerBy Injections n1 cut = n1 -ℤ pos cut
 nearerBy Withdrawals n1 cut = n1 +ℤ pos cut
 
 -- step 3: an injection below M- becomes M-, a withdrawal above M+ becomes M+; zero is not stretched
-abbrev pub step3Of : ℤ → ℤ → ℤ → ℤ
-step3Of n2 stepDown stepUp =
-    pick (ltZ (pos 0) n2 && ltZ n2 stepDown) stepDown
-    (pick (ltZ n2 (pos 0) && ltZ stepUp n2) stepUp
+abbrev pub step3Of : ℤ → Margins → ℤ
+step3Of n2 m =
+    pick (ltZ (pos 0) n2 && ltZ n2 (m .«step_down»)) (m .«step_down»)
+    (pick (ltZ n2 (pos 0) && ltZ (m .«step_up») n2) (m .«step_up»)
     n2)
 
 -- the balance, positive for injection
@@ -58,17 +59,14 @@ unfoldable pub verdictOf : Band → ℤ → ℤ → ℕ
 verdictOf b e s3 = cutVerdict e + pick (isOutside b s3) 4 0
 
 -- a unit at zero lies outside its margins
-abbrev pub zeroOutside : ℤ → ℤ → ℤ → Bool
-zeroOutside n3 stepDown stepUp = eqZ n3 (pos 0) && (ltZ (pos 0) stepDown || ltZ stepUp (pos 0))
+abbrev pub zeroOutside : ℤ → Margins → Bool
+zeroOutside n3 m = eqZ n3 (pos 0) && (ltZ (pos 0) (m .«step_down») || ltZ (m .«step_up») (pos 0))
 
--- a unit's reason, a sum: 1 implicit nomination taken, 2 n1 ≠ n0, 4 n2 ≠ n1, 8 n3 ≠ n2, 16 n3 = 0 lies outside the margins
-unfoldable pub reasonBy : Bool → ℤ → ℤ → ℤ → ℤ → Bool → ℕ
-reasonBy taken n0 n1 n2 n3 outside =
-    pick taken 1 0
+-- a unit's reason, a sum: 1 implicit nomination taken, which is told as the number that it adds; 2 n1 ≠ n0, 4 n2 ≠ n1, 8 n3 ≠ n2, 16 n3 = 0 lies outside the margins
+unfoldable pub reasonOf : ℕ → ℤ → ℤ → ℤ → ℤ → Margins → ℕ
+reasonOf taken n0 n1 n2 n3 m =
+    taken
     + pick (not (eqZ n1 n0)) 2 0
     + pick (not (eqZ n2 n1)) 4 0
     + pick (not (eqZ n3 n2)) 8 0
-    + pick outside 16 0
-
-abbrev pub reasonOf : Bool → ℤ → ℤ → ℤ → ℤ → ℤ → ℤ → ℕ
-reasonOf taken n0 n1 n2 n3 stepDown stepUp = reasonBy taken n0 n1 n2 n3 (zeroOutside n3 stepDown stepUp)
+    + pick (zeroOutside n3 m) 16 0

@@ -6,7 +6,7 @@ ghost use lib.ListN.{length, getD};
 ghost use Rattle.numbers.specs.Column.{column, at};
 ghost use Rattle.numbers.specs.Sum.{sum};
 ghost use Rattle.group.specs.Group.{sizeOf, sizesOf, step2All};
-ghost use Rattle.group.specs.Asked.{lossOf, lossesOf, left, Classed, SharedOut, Lost, Bearable};
+ghost use Rattle.group.specs.Inner.{lossOf, lossesOf, leftBy, Classed, SharedOut, Lost, Bearable};
 use crate::band::direction;
 use crate::unit::nearer;
 use numbers::signed::magnitude;
@@ -86,15 +86,12 @@ fn lose_all(d: Direction, n1: &[i32], class: &[u8], losses: &mut [u32])
     }
 }
 
-// What each unit loses for the excess e of S1, in a lent column of zeros.
-pub fn losses_into(e: i32, n1: &[i32], class: &[u8], losses: &mut [u32])
+// What each unit loses for the excess e of S1, in a lent column.
+fn losses_into(e: i32, n1: &[i32], class: &[u8], losses: &mut [u32])
     requires { ⌜ Bearable e (now n1) (now class) ⌝ }
-    requires { ⌜ now losses ≡ column (length (now n1)) (λ (i : ℕ). 0) ⌝ }
+    requires { ⌜ length (now losses) ≡ length (now n1) ⌝ }
     ensures { λ _. ⌜ now (losses .exit) ≡ lossesOf e (now (n1 .entry)) (now (class .entry)) ⌝ }
 {
-    if e == 0 {
-        return;
-    }
     let d = direction(e);
     let shared = share_out(d, magnitude(e), n1, class, losses);
     quota::cut(losses, shared.t, shared.c);
@@ -106,7 +103,7 @@ pub fn losses_into(e: i32, n1: &[i32], class: &[u8], losses: &mut [u32])
 // Each unit is brought nearer to zero by what it loses.
 fn take_off(d: Direction, n1: &[i32], losses: &[u32], n2: &mut [i32])
     requires { ⌜ Lost (now n1) (now losses) (now n2) ⌝ }
-    ensures { λ _. ⌜ now (n2 .exit) ≡ left d (now (n1 .entry)) (now (losses .entry)) ⌝ }
+    ensures { λ _. ⌜ now (n2 .exit) ≡ leftBy d (now (n1 .entry)) (now (losses .entry)) ⌝ }
 {
     let mut i = 0;
     while i < n1.len() {
@@ -115,8 +112,20 @@ fn take_off(d: Direction, n1: &[i32], losses: &[u32], n2: &mut [i32])
     }
 }
 
-// Step 2 of every unit, for the excess e of S1.
-pub fn step2_all(e: i32, n1: &[i32], class: &[u8], n2: &mut [i32])
+// Every unit as it is, where there is no excess.
+fn leave(n1: &[i32], n2: &mut [i32])
+    requires { ⌜ length (now n2) ≡ length (now n1) ⌝ }
+    ensures { λ _. ⌜ now (n2 .exit) ≡ now (n1 .entry) ⌝ }
+{
+    let mut i = 0;
+    while i < n1.len() {
+        n2[i] = n1[i];
+        i += 1;
+    }
+}
+
+// Step 2 of every unit, where there is an excess e of S1.
+fn cut_off(e: i32, n1: &[i32], class: &[u8], n2: &mut [i32])
     requires { ⌜ Bearable e (now n1) (now class) × (length (now n2) ≡ length (now n1)) ⌝ }
     ensures { λ _. ⌜ now (n2 .exit) ≡ step2All e (now (n1 .entry)) (now (class .entry)) ⌝ }
 {
@@ -124,4 +133,16 @@ pub fn step2_all(e: i32, n1: &[i32], class: &[u8], n2: &mut [i32])
     let mut losses = [0u32; 64];
     losses_into(e, n1, class, &mut losses[..n]);
     take_off(direction(e), n1, &losses[..n], n2);
+}
+
+// Step 2 of every unit, for the excess e of S1; without one no column is made.
+pub fn step2_all(e: i32, n1: &[i32], class: &[u8], n2: &mut [i32])
+    requires { ⌜ Bearable e (now n1) (now class) × (length (now n2) ≡ length (now n1)) ⌝ }
+    ensures { λ _. ⌜ now (n2 .exit) ≡ step2All e (now (n1 .entry)) (now (class .entry)) ⌝ }
+{
+    if e == 0 {
+        leave(n1, n2);
+        return;
+    }
+    cut_off(e, n1, class, n2);
 }

@@ -1,19 +1,23 @@
 // A group given as columns is judged: refused, or its three steps, sums, verdict and balance.
 ghost use mathlib.Core.Path.{_≡_};
-ghost use Rattle.group.specs.Group.{step1All, step3All};
+ghost use lib.IntN.{_-ℤ_};
+ghost use lib.ListN.{length};
+ghost use Rattle.group.specs.Group.{step1All, step3All, reasonsAll};
 ghost use Rattle.numbers.specs.Range.{Within};
 ghost use Rattle.numbers.specs.Sum.{sumZ};
-ghost use Rattle.group.specs.Columns.{columns, judgement, sumsBy, lengths, Columns};
-ghost use Rattle.group.specs.Asked.{Aligned, Judged, Written};
+ghost use Rattle.group.specs.Columns.{asGroup, judgement, sumsBy, lengths, Judges};
+ghost use Rattle.group.specs.Inner.{Aligned, Judged, CutOff, Written, Explained};
 use crate::band::Band;
 use crate::band::balance;
 use crate::band::verdict;
-use crate::check::count_permitted;
 use crate::check::units;
 use crate::cut::step2_all;
+use crate::unit::reason;
 use crate::unit::step1;
 use crate::unit::step3;
 use numbers::signed::sum;
+use terms::check::is_count;
+use terms::quantity::Margins;
 use terms::quantity::Nomination;
 use terms::quantity::Position;
 use terms::refusal::Answer;
@@ -43,7 +47,11 @@ fn step1_all(n0: &[i32], step_down: &[i32], step_up: &[i32], n1: &mut [i32]) -> 
     let mut s1 = 0;
     let mut i = 0;
     while i < n0.len() {
-        let first = step1(n0[i], step_down[i], step_up[i]);
+        let m = Margins {
+            step_down: step_down[i],
+            step_up: step_up[i],
+        };
+        let first = step1(n0[i], m);
         n1[i] = first;
         s1 += first;
         i += 1;
@@ -51,41 +59,88 @@ fn step1_all(n0: &[i32], step_down: &[i32], step_up: &[i32], n1: &mut [i32]) -> 
     s1
 }
 
-// The sums on both sides of step 3.
-struct Stretched {
-    s2: i32,
-    s3: i32,
+// Where steps 1 and 2 leave a group: its band, S1 and the excess of S1.
+pub struct Cut {
+    pub band: Band,
+    pub s1: i32,
+    pub e: i32,
 }
 
-// Step 3 of every unit, with S2 and S3.
-fn step3_all(n2: &[i32], step_down: &[i32], step_up: &[i32], n3: &mut [i32]) -> Stretched
-    requires { ⌜ Aligned (now n2) (now «step_down») (now «step_up») (now n3) ⌝ }
-    ensures { λ r. ⌜ (r .s2 ≡ sumZ (now (n2 .entry))) × ((r .s3 ≡ sumZ (step3All (now (n2 .entry)) (now («step_down» .entry)) (now («step_up» .entry)))) × (now (n3 .exit) ≡ step3All (now (n2 .entry)) (now («step_down» .entry)) (now («step_up» .entry)))) ⌝ }
+// Steps 1 and 2 of a group of position p that is not refused.
+pub fn cut_all(
+    p: Position,
+    n0: &[i32],
+    step_down: &[i32],
+    step_up: &[i32],
+    class: &[u8],
+    n1: &mut [i32],
+    n2: &mut [i32],
+) -> Cut
+    requires { ⌜ Judged (p .0) (now n0) (now «step_down») (now «step_up») (now class) (now n1) (now n2) ⌝ }
+    ensures { λ r. ⌜ CutOff (p .0) (now (n0 .entry)) (now («step_down» .entry)) (now («step_up» .entry)) (now (class .entry)) r (now (n1 .exit)) (now (n2 .exit)) ⌝ }
 {
-    let mut s2 = 0;
+    let band = Band::of(p);
+    let s1 = step1_all(n0, step_down, step_up, n1);
+    let e = band.excess(s1);
+    step2_all(e, n1, class, n2);
+    Cut { band, s1, e }
+}
+
+// Step 3 of every unit, and S3.
+pub fn step3_all(n2: &[i32], step_down: &[i32], step_up: &[i32], n3: &mut [i32]) -> i32
+    requires { ⌜ Aligned (now n2) (now «step_down») (now «step_up») (now n3) ⌝ }
+    ensures { λ r. ⌜ (r ≡ sumZ (step3All (now (n2 .entry)) (now («step_down» .entry)) (now («step_up» .entry)))) × (now (n3 .exit) ≡ step3All (now (n2 .entry)) (now («step_down» .entry)) (now («step_up» .entry))) ⌝ }
+{
     let mut s3 = 0;
     let mut i = 0;
     while i < n2.len() {
-        let second = n2[i];
-        let third = step3(second, step_down[i], step_up[i]);
+        let m = Margins {
+            step_down: step_down[i],
+            step_up: step_up[i],
+        };
+        let third = step3(n2[i], m);
         n3[i] = third;
-        s2 += second;
         s3 += third;
         i += 1;
     }
-    Stretched { s2, s3 }
+    s3
 }
 
-// Verdict and balance, beside the sums.
-pub fn summed(p: Position, b: Band, s1: i32, e: i32, s2: i32, s3: i32) -> Sums
-    requires { ⌜ Within 64000000 (p .0) × Within 64000000 s3 ⌝ }
-    ensures { λ r. ⌜ r ≡ sumsBy (p .0) b s1 e s2 s3 ⌝ }
+// The reason of every unit; the column tells before by 1 which nominations are implicit.
+pub fn reasons_all(
+    n0: &[i32],
+    n1: &[i32],
+    n2: &[i32],
+    n3: &[i32],
+    step_down: &[i32],
+    step_up: &[i32],
+    why: &mut [u8],
+)
+    requires { ⌜ Explained (now why) (now n0) (now n1) (now n2) (now n3) (now «step_down») (now «step_up») ⌝ }
+    ensures { λ _. ⌜ now (why .exit) ≡ reasonsAll (now (why .entry)) (now (n0 .entry)) (now (n1 .entry)) (now (n2 .entry)) (now (n3 .entry)) (now («step_down» .entry)) (now («step_up» .entry)) ⌝ }
 {
+    let mut i = 0;
+    while i < n0.len() {
+        let m = Margins {
+            step_down: step_down[i],
+            step_up: step_up[i],
+        };
+        why[i] = reason(why[i], n0[i], n1[i], n2[i], n3[i], m);
+        i += 1;
+    }
+}
+
+// Verdict and balance beside the sums. Step 2 takes what the excess is, so S2 is the rest of S1.
+pub fn summed(p: Position, cut: Cut, s3: i32) -> Sums
+    requires { ⌜ Within 64000000 (p .0) × (Within 64000000 (cut .s1) × (Within 128000000 (cut .e) × Within 64000000 s3)) ⌝ }
+    ensures { λ r. ⌜ r ≡ sumsBy (p .0) (cut .band) (cut .s1) (cut .e) (cut .s1 -ℤ cut .e) s3 ⌝ }
+{
+    let band = cut.band;
     Sums {
-        verdict: verdict(b, e, s3),
+        verdict: verdict(band, cut.e, s3),
         p,
-        s1: Nomination(s1),
-        s2: Nomination(s2),
+        s1: Nomination(cut.s1),
+        s2: Nomination(cut.s1 - cut.e),
         s3: Nomination(s3),
         balance: balance(p, Nomination(s3)),
     }
@@ -102,15 +157,12 @@ fn judged(
     n2: &mut [i32],
     n3: &mut [i32],
 ) -> Sums
-    requires { ⌜ Judged (p .0) (now n0) (now «step_down») (now «step_up») (now class) (now n1) (now n2) (now n3) ⌝ }
+    requires { ⌜ Judged (p .0) (now n0) (now «step_down») (now «step_up») (now class) (now n1) (now n2) × (length (now n3) ≡ length (now n0)) ⌝ }
     ensures { λ r. ⌜ Written (p .0) (now (n0 .entry)) (now («step_down» .entry)) (now («step_up» .entry)) (now (class .entry)) r (now (n1 .exit)) (now (n2 .exit)) (now (n3 .exit)) ⌝ }
 {
-    let b = Band::of(p);
-    let s1 = step1_all(n0, step_down, step_up, n1);
-    let e = b.excess(s1);
-    step2_all(e, n1, class, n2);
-    let sums = step3_all(n2, step_down, step_up, n3);
-    summed(p, b, s1, e, sums.s2, sums.s3)
+    let cut = cut_all(p, n0, step_down, step_up, class, n1, n2);
+    let s3 = step3_all(n2, step_down, step_up, n3);
+    summed(p, cut, s3)
 }
 
 // Whether eight lengths are one.
@@ -158,7 +210,7 @@ pub fn judge(
     n2: &mut [i32],
     n3: &mut [i32],
 ) -> Judgement
-    ensures { λ r. ⌜ Columns (columns (now (n0 .entry)) (now (pc .entry)) (now («step_down» .entry)) (now («step_up» .entry)) (now (class .entry))) (now (n1 .entry)) (now (n2 .entry)) (now (n3 .entry)) (judgement r) (now (n1 .exit)) (now (n2 .exit)) (now (n3 .exit)) ⌝ }
+    ensures { λ r. ⌜ Judges (asGroup (now (n0 .entry)) (now (pc .entry)) (now («step_down» .entry)) (now («step_up» .entry)) (now (class .entry))) (now (n1 .entry)) (now (n2 .entry)) (now (n3 .entry)) (judgement r) (now (n1 .exit)) (now (n2 .exit)) (now (n3 .exit)) ⌝ }
 {
     let n = n0.len();
     if !one_length(
@@ -176,7 +228,7 @@ pub fn judge(
             place: 0,
         });
     }
-    if !count_permitted(n) {
+    if !is_count(n) {
         return Judgement::Refused(Refusal {
             why: Why::UnitCount,
             place: 0,

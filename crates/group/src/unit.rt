@@ -2,27 +2,41 @@
 ghost use mathlib.Core.Path.{_≡_};
 ghost use Prim.Native.Nat.{_≤_};
 ghost use mathlib.Core.Bool.{not};
+ghost use lib.IntN.{pos};
+ghost use lib.Signed.{ltZ};
 ghost use Rattle.numbers.specs.Choice.{pick, eqZ};
 ghost use Rattle.numbers.specs.Range.{Within};
-ghost use Rattle.group.specs.Steps.{step1Of, nearerBy, step3Of, zeroOutside, reasonBy};
+ghost use Rattle.group.specs.Steps.{step1Of, nearerBy, step3Of, zeroOutside, reasonOf};
 use terms::quantity::Direction;
+use terms::quantity::Margins;
 
-// Step 1.
-pub fn step1(n0: i32, step_down: i32, step_up: i32) -> i32
-    ensures { λ r. ⌜ r ≡ step1Of n0 «step_down» «step_up» ⌝ }
+// A quantity above zero gives way to one, below zero to another, and zero stays.
+fn by_sign(n: i32, above: i32, below: i32) -> i32
+    ensures { λ r. ⌜ r ≡ pick (ltZ (pos 0) n) above (pick (ltZ n (pos 0)) below n) ⌝ }
 {
-    if 0 < n0 {
-        if step_up < n0 {
-            return step_up;
-        }
-        return n0;
+    let mut r = n;
+    if 0 < n {
+        r = above;
     }
-    if n0 < 0 {
-        if n0 < step_down {
-            return step_down;
-        }
+    if n < 0 {
+        r = below;
     }
-    n0
+    r
+}
+
+// Step 1. Each choice is made by itself, so that a loop over units becomes vectors.
+pub fn step1(n0: i32, m: Margins) -> i32
+    ensures { λ r. ⌜ r ≡ step1Of n0 m ⌝ }
+{
+    let mut high = n0;
+    if m.step_up < n0 {
+        high = m.step_up;
+    }
+    let mut low = n0;
+    if n0 < m.step_down {
+        low = m.step_down;
+    }
+    by_sign(n0, high, low)
 }
 
 // Step 2, once the unit's cut is known.
@@ -37,22 +51,19 @@ pub fn nearer(d: Direction, n1: i32, cut: u32) -> i32
     }
 }
 
-// Step 3.
-pub fn step3(n2: i32, step_down: i32, step_up: i32) -> i32
-    ensures { λ r. ⌜ r ≡ step3Of n2 «step_down» «step_up» ⌝ }
+// Step 3, with its choices as step 1 has them.
+pub fn step3(n2: i32, m: Margins) -> i32
+    ensures { λ r. ⌜ r ≡ step3Of n2 m ⌝ }
 {
-    if 0 < n2 {
-        if n2 < step_down {
-            return step_down;
-        }
-        return n2;
+    let mut high = n2;
+    if n2 < m.step_down {
+        high = m.step_down;
     }
-    if n2 < 0 {
-        if step_up < n2 {
-            return step_up;
-        }
+    let mut low = n2;
+    if m.step_up < n2 {
+        low = m.step_up;
     }
-    n2
+    by_sign(n2, high, low)
 }
 
 // What a reason adds to the sum where it holds.
@@ -72,23 +83,24 @@ fn differ(a: i32, b: i32) -> bool
 }
 
 // Whether a unit at zero lies outside its margins.
-pub fn zero_outside(n3: i32, step_down: i32, step_up: i32) -> bool
-    ensures { λ r. ⌜ r ≡ zeroOutside n3 «step_down» «step_up» ⌝ }
+fn zero_outside(n3: i32, m: Margins) -> bool
+    ensures { λ r. ⌜ r ≡ zeroOutside n3 m ⌝ }
 {
     if n3 != 0 {
         return false;
     }
-    if 0 < step_down {
+    if 0 < m.step_down {
         return true;
     }
-    step_up < 0
+    m.step_up < 0
 }
 
-// A unit's reason; the caller says whether it is at zero outside its margins.
-pub fn reason(taken: bool, n0: i32, n1: i32, n2: i32, n3: i32, outside: bool) -> u8
-    ensures { λ r. ⌜ r ≡ reasonBy taken n0 n1 n2 n3 outside ⌝ }
+// A unit's reason; taken is 1 where its nomination is implicit, and else 0.
+pub fn reason(taken: u8, n0: i32, n1: i32, n2: i32, n3: i32, m: Margins) -> u8
+    requires { ⌜ taken ≤ 1 ⌝ }
+    ensures { λ r. ⌜ r ≡ reasonOf taken n0 n1 n2 n3 m ⌝ }
 {
-    let first = weight(taken, 1) + weight(differ(n1, n0), 2);
+    let first = taken + weight(differ(n1, n0), 2);
     let second = weight(differ(n2, n1), 4) + weight(differ(n3, n2), 8);
-    first + second + weight(outside, 16)
+    first + second + weight(zero_outside(n3, m), 16)
 }

@@ -11,7 +11,7 @@ use Rattle.numbers.specs.Bytes.{laidAt}
 use Rattle.numbers.proofs.Laid.{laid-next, laid-none, length-laid}
 use Rattle.writers.specs.Runs.{run}
 use Rattle.listing.specs.Lines.{spaced}
-use Rattle.listing.specs.Laying.{Lays}
+use Rattle.listing.specs.Inner.{Lays}
 
 module _ (entry : List ℕ) (at : ℕ) where
   -- a part, and the next

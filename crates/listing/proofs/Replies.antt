@@ -1,11 +1,11 @@
 -- The four ends of a step, and what was offered: the lines by the room after the call are those by the block's result.
-use Prim.Native.Nat.{ℕ, zero, suc, _+_, _*_, _<_}
+use Prim.Native.Nat.{ℕ, zero, suc, _+_, _<_}
 use mathlib.Core.Path.{_≡_, refl, sym, ap, _∙_}
 use mathlib.Core.Bool.{Bool, true, false}
 use mathlib.Core.List.{List, [], append-nil}
 use native.Mathlib.Omega.{arith}
-use borrow.Author.Tests.{eqb-true, ltb-true}
-use lib.Dec.{eqb, ltb}
+use borrow.Author.Tests.{ltb-true}
+use lib.Dec.{ltb}
 use lib.ListN.{length, drop, length-append}
 use Rattle.numbers.specs.Bytes.{byteAt}
 use Rattle.numbers.specs.Choice.{pick}
@@ -16,9 +16,14 @@ use Rattle.terms.specs.declared.refusal.Refusal.{Refusal}
 use Rattle.terms.proofs.Replies.{need-is, next-is}
 use Rattle.group.specs.Columns.{sumsOf}
 use Rattle.records.specs.declared.group_result.GroupResult.{GroupResult}
-use Rattle.records.specs.Layouts.{groupResultAt}
+use Rattle.records.specs.Layouts.{resultCount, groupResultAt}
+use Rattle.writers.specs.Results.{resultLength}
 use Rattle.writers.specs.Runs.{run}
+use Rattle.walk.specs.declared.table.Role.{Role}
+use Rattle.walk.specs.declared.table.Role.the-variants.{Opens, Block, Closes}
+use Rattle.walk.specs.Table.{roleOf, isBlock}
 use Rattle.day.specs.declared.value.Day.{Day}
+use Rattle.records.specs.Longest.{longestResult}
 use Rattle.day.specs.declared.offer.Step.{Step}
 use Rattle.day.specs.declared.offer.Offered.the-variants as O
 use Rattle.day.specs.Blocks.{groupResult, blockKey, blockCount, blockGroup, blockResult}
@@ -26,12 +31,12 @@ use Rattle.day.specs.Offers.{headFor, offerOf, writtenOf, Offers}
 use Rattle.day.proofs.Taking.{result-length}
 use Rattle.day.proofs.Outcomes.{taken-block, reply}
 use Rattle.day.proofs.ReadBack.{group-back, unit-back}
-use Rattle.day.proofs.Demands.{accepted, result-bytes, group-told, unit-told}
+use Rattle.day.proofs.Demands.{block-accepted, result-bytes, group-told, unit-told}
 use Rattle.listing.specs.declared.list.Listing.{Listing}
 use Rattle.listing.specs.declared.list.Listed.{Listed}
 use Rattle.listing.specs.declared.list.Listed.the-variants.{Waits, Full, Done}
-use Rattle.listing.specs.Lines.{dayLine, endLine, unitLine, unitLineAt, resultLines}
-use Rattle.listing.specs.Laying.{Readable}
+use Rattle.listing.specs.Lines.{unitLine, unitLineAt, resultLines, longestLines}
+use Rattle.listing.specs.Inner.{Readable}
 use Rattle.listing.specs.Listing.{outcome, acceptedLines, listTaken, listRefused, listReply, waits, over, listOf, Lists}
 
 module _ (l : Listing) (s : List ℕ) (ended : Bool) (entry : List ℕ) where
@@ -39,14 +44,14 @@ module _ (l : Listing) (s : List ℕ) (ended : Bool) (entry : List ℕ) where
   silent : (r : Listed) → listOf l s ended (length entry) ≡ outcome r [] → Lists (listOf l s ended (length entry)) entry r entry
   silent r e = rw e (record { replied = refl; room = laid-none entry 0 })
 
-  is-full : ltb (length entry) 4120 ≡ true → listOf l s ended (length entry) ≡ outcome Full []
+  is-full : ltb (length entry) longestLines ≡ true → listOf l s ended (length entry) ≡ outcome Full []
   unfolding listOf
   is-full a = rw a
 
-  pub full : ltb (length entry) 4120 ≡ true → Lists (listOf l s ended (length entry)) entry Full entry
+  pub full : ltb (length entry) longestLines ≡ true → Lists (listOf l s ended (length entry)) entry Full entry
   full a = silent Full (is-full a)
 
-  module _ (a : ltb (length entry) 4120 ≡ false) where
+  module _ (a : ltb (length entry) longestLines ≡ false) where
     is-waiting : waits s ended ≡ true → listOf l s ended (length entry) ≡ outcome Waits []
     unfolding listOf
     is-waiting b = rw (a, b)
@@ -62,7 +67,7 @@ module _ (l : Listing) (s : List ℕ) (ended : Bool) (entry : List ℕ) where
       pub done : over (l .day) s ≡ true → Lists (listOf l s ended (length entry)) entry Done entry
       done c = silent Done (is-done c)
 
-      pub offered : over (l .day) s ≡ false → listOf l s ended (length entry) ≡ listReply (l .place) s (offerOf (l .day) s 1307)
+      pub offered : over (l .day) s ≡ false → listOf l s ended (length entry) ≡ listReply (l .place) s (offerOf (l .day) s longestResult)
       unfolding listOf
       offered c = rw (a, b, c)
 
@@ -77,9 +82,9 @@ pub present : (day : Day) (s : List ℕ) (room : ℕ) {step : Step} → offerOf 
 unfolding offerOf headFor
 present day s room e = ltb-true 0 (length s) (need-is _ _ _ _ (next-is _ _ e .1 .0) .0)
 
-module _ (day : Day) (s entry : List ℕ) (long : length entry ≡ 1307) where
+module _ (day : Day) (s entry : List ℕ) (long : length entry ≡ longestResult) where
   module _ {step : Step} {exit : List ℕ} (o : Offers day s entry (O.Taken step) exit) where
-    module _ (block : byteAt s 0 ≡ 2) where
+    module _ (block : roleOf (byteAt s 0) ≡ Block) where
       abbrev group : GroupResult
       group = groupResult (blockKey s) (blockCount s) (sumsOf (blockGroup s))
 
@@ -87,51 +92,50 @@ module _ (day : Day) (s entry : List ℕ) (long : length entry ≡ 1307) where
       told = group-told day s entry o block
 
       told-again : groupResultAt (blockResult s) 0 ≡ group
-      told-again = group-back s [] (blockResult s) (accepted day s entry o block) (sym (append-nil (blockResult s)))
+      told-again = group-back s [] (blockResult s) (block-accepted day s entry o block) (sym (append-nil (blockResult s)))
 
       same-unit : (i : ℕ) → i < blockCount s → unitLineAt exit i ≡ unitLineAt (blockResult s) i
       same-unit i l =
           ap unitLine
-          (unit-told day s entry o block i l ∙ sym (unit-back s [] (blockResult s) (accepted day s entry o block) (sym (append-nil (blockResult s))) i l))
+          (unit-told day s entry o block i l ∙ sym (unit-back s [] (blockResult s) (block-accepted day s entry o block) (sym (append-nil (blockResult s))) i l))
 
       same-lines : resultLines exit ≡ resultLines (blockResult s)
       unfolding resultLines groupResult
       same-lines = rw (told, told-again, run-same (unitLineAt exit) (unitLineAt (blockResult s)) (blockCount s) same-unit)
 
-      counted : byteAt exit 6 ≡ blockCount s
+      counted : byteAt exit (resultCount .place) ≡ blockCount s
       unfolding groupResultAt groupResult
       counted = ap (λ (g : GroupResult). g .count) told
 
       pub readable : Readable exit
       readable =
           let t = taken-block day s (length entry) (reply day s entry o) block in
-          let n : length exit ≡ length (blockResult s) + length (drop (27 + 20 * blockCount s) entry) =
-          ap length (result-bytes day s entry o block) ∙ length-append (blockResult s) (drop (27 + 20 * blockCount s) entry) in
+          let n : length exit ≡ length (blockResult s) + length (drop (resultLength (blockCount s)) entry) =
+          ap length (result-bytes day s entry o block) ∙ length-append (blockResult s) (drop (resultLength (blockCount s)) entry) in
           let m = result-length s (blockKey s) (blockCount s) in
           record { few = omega (arith, counted, t .enough, long); long = omega (arith, counted) }
 
-    lines-agree : (left : Day) → acceptedLines (byteAt s 0) left exit ≡ acceptedLines (byteAt s 0) left (writtenOf s)
+    lines-agree : (left : Day) → acceptedLines (roleOf (byteAt s 0)) left exit ≡ acceptedLines (roleOf (byteAt s 0)) left (writtenOf s)
     unfolding acceptedLines
-    lines-agree left = go (eqb (byteAt s 0) 2) refl
+    lines-agree left = go (roleOf (byteAt s 0)) refl
       where
-        go : (b : Bool) → eqb (byteAt s 0) 2 ≡ b
-            → pick (eqb (byteAt s 0) 1) (dayLine (left .«record»)) (pick b (resultLines exit) (endLine (left .groups)))
-            ≡ pick (eqb (byteAt s 0) 1) (dayLine (left .«record»)) (pick b (resultLines (pick b (blockResult s) [])) (endLine (left .groups)))
-        go true q = ap (λ (x : List ℕ). pick (eqb (byteAt s 0) 1) (dayLine (left .«record»)) x) (same-lines (eqb-true _ _ q))
-        go false q = refl
+        go : (role : Role) → roleOf (byteAt s 0) ≡ role → acceptedLines role left exit ≡ acceptedLines role left (pick (isBlock role) (blockResult s) [])
+        go Opens q = refl
+        go Block q = same-lines q
+        go Closes q = refl
 
-    pub taken : (place : ℕ) → listTaken place step (byteAt s 0) exit ≡ listReply place s (offerOf day s 1307)
+    pub taken : (place : ℕ) → listTaken place step (roleOf (byteAt s 0)) exit ≡ listReply place s (offerOf day s longestResult)
     unfolding listTaken listReply
     taken place =
-        let e : offerOf day s 1307 ≡ is step = rw long at (reply day s entry o) in
+        let e : offerOf day s longestResult ≡ is step = rw long at (reply day s entry o) in
         rw (e, lines-agree (step .day))
 
     pub at-hand : 0 < length s
     at-hand = present day s (length entry) (reply day s entry o)
 
   pub refused : (f : Refusal) (back : Day) {exit : List ℕ} → Offers day s entry (O.Refused f back) exit → (place : ℕ)
-      → listRefused place (numberOf (f .why)) (f .place) ≡ listReply place s (offerOf day s 1307)
+      → listRefused place (numberOf (f .why)) (f .place) ≡ listReply place s (offerOf day s longestResult)
   unfolding listReply
   refused f back o place =
-      let e : offerOf day s 1307 ≡ refusal f = rw long at (sym (o .gave .replied)) in
+      let e : offerOf day s longestResult ≡ refusal f = rw long at (sym (o .gave .replied)) in
       rw e

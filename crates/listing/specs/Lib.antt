@@ -1,5 +1,5 @@
 -- The day list: its lines, and one step of it.
 pub mod Lines
-pub mod Laying
+pub mod Inner
 pub mod Listing
 pub mod Whole

@@ -8,6 +8,7 @@ use Rattle.records.specs.declared.day.DayRecord.{DayRecord}
 use Rattle.records.specs.declared.group_result.GroupResult.{GroupResult}
 use Rattle.records.specs.declared.unit_result.UnitResult.{UnitResult}
 use Rattle.records.specs.Layouts.{groupResultLength, groupResultAt, unitResultLength, unitResultAt}
+use Rattle.terms.specs.Checks.{mostUnits}
 use Rattle.writers.specs.Runs.{run}
 
 -- ---- numbers, in ASCII
@@ -83,3 +84,42 @@ unitLineAt result i = unitLine (unitResultAt result (groupResultLength + unitRes
 
 unfoldable pub resultLines : List ℕ → List ℕ
 resultLines result = groupLine (groupResultAt result 0) ++ run (unitLineAt result) (groupResultAt result 0 .count)
+
+-- ---- how long a line can be
+-- a field and the space before it: as many digits as the largest number of the width has, and a sign where it may be negative
+abbrev pub u8Field : ℕ
+u8Field = 1 + 3
+
+abbrev pub u16Field : ℕ
+u16Field = 1 + 5
+
+abbrev pub u32Field : ℕ
+u32Field = 1 + 10
+
+abbrev pub u64Field : ℕ
+u64Field = 1 + 20
+
+abbrev pub i32Field : ℕ
+i32Field = 1 + 1 + 10
+
+abbrev pub longestDayLine : ℕ
+longestDayLine = 3 + u16Field + u8Field + u32Field + 1
+
+abbrev pub longestEndLine : ℕ
+longestEndLine = 3 + u32Field + 1
+
+abbrev pub longestRefusedLine : ℕ
+longestRefusedLine = 7 + u8Field + u64Field + 1
+
+abbrev pub longestGroupFront : ℕ
+longestGroupFront = 5 + u16Field + u8Field * 4
+
+abbrev pub longestGroupLine : ℕ
+longestGroupLine = longestGroupFront + i32Field * 5 + 1
+
+abbrev pub longestUnitLine : ℕ
+longestUnitLine = 4 + u16Field + u8Field + i32Field * 4 + 1
+
+-- the lines of a block: that of the group, and one for each of the most units
+abbrev pub longestLines : ℕ
+longestLines = longestGroupLine + longestUnitLine * mostUnits

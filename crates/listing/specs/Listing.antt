@@ -8,25 +8,17 @@ use lib.ListN.{length}
 use Rattle.numbers.specs.Bytes.{byteAt, laidAt}
 use Rattle.numbers.specs.Choice.{pick}
 use Rattle.terms.specs.Reply.{Reply, is, refused}
-use Rattle.records.specs.Layouts.{dayKind, groupKind}
-use Rattle.walk.specs.Table.{isClosed}
+use Rattle.records.specs.Longest.{longestBlock, longestResult}
+use Rattle.walk.specs.declared.table.Role.{Role}
+use Rattle.walk.specs.declared.table.Role.the-variants.{Opens, Block, Closes}
+use Rattle.walk.specs.Table.{roleOf, isClosed}
 use Rattle.day.specs.declared.value.Day.{Day}
 use Rattle.day.specs.declared.offer.Step.{Step}
 use Rattle.day.specs.Offers.{offerOf, writtenOf}
 use Rattle.listing.specs.declared.list.Listing.{Listing}
 use Rattle.listing.specs.declared.list.Listed.{Listed}
 use Rattle.listing.specs.declared.list.Listed.the-variants.{Taken, Refused, Waits, Full, Done}
-use Rattle.listing.specs.Lines.{dayLine, endLine, refusedLine, resultLines}
-
--- a block has at most 1,674 bytes and its result 1,307; its lines are one of at most 88 bytes and 64 of at most 63
-abbrev pub longestBlock : ℕ
-longestBlock = 1674
-
-abbrev pub longestResult : ℕ
-longestResult = 1307
-
-abbrev pub longestLines : ℕ
-longestLines = 4120
+use Rattle.listing.specs.Lines.{dayLine, endLine, refusedLine, resultLines, longestLines}
 
 -- a place of the input, in 64 bits
 abbrev pub further : ℕ → ℕ → ℕ
@@ -40,16 +32,15 @@ pub record Outcome : Type 0 where
 abbrev pub outcome : Listed → List ℕ → Outcome
 outcome answer lines = record { answer = answer; lines = lines }
 
--- the lines of what was accepted, by its kind: it left this day, and wrote this result
-unfoldable pub acceptedLines : ℕ → Day → List ℕ → List ℕ
-acceptedLines kind day result =
-    pick (eqb kind dayKind) (dayLine (day .«record»))
-    (pick (eqb kind groupKind) (resultLines result)
-    (endLine (day .groups)))
+-- the lines of what was accepted, by what it is to the day: it left this day, and wrote this result
+unfoldable pub acceptedLines : Role → Day → List ℕ → List ℕ
+acceptedLines Opens day result = dayLine (day .«record»)
+acceptedLines Block day result = resultLines result
+acceptedLines Closes day result = endLine (day .groups)
 
-unfoldable pub listTaken : ℕ → Step → ℕ → List ℕ → Outcome
-listTaken place step kind result =
-    let lines = acceptedLines kind (step .day) result in
+unfoldable pub listTaken : ℕ → Step → Role → List ℕ → Outcome
+listTaken place step role result =
+    let lines = acceptedLines role (step .day) result in
     outcome (Taken (record { used = step .used; written = length lines; listing = record { day = step .day; place = further place (step .used) } })) lines
 
 -- after a refusal its number and its place in the input, and the list stops
@@ -59,7 +50,7 @@ listRefused place number inside =
     outcome (Refused (length lines)) lines
 
 unfoldable pub listReply : ℕ → List ℕ → Reply Step → Outcome
-listReply place s (is step) = listTaken place step (byteAt s 0) (writtenOf s)
+listReply place s (is step) = listTaken place step (roleOf (byteAt s 0)) (writtenOf s)
 listReply place s (refused number inside) = listRefused place number inside
 
 -- more input must come where a block might be cut short

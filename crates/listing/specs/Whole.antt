@@ -7,6 +7,8 @@ use lib.ListN.{length, drop}
 use Rattle.numbers.specs.Bytes.{byteAt}
 use Rattle.numbers.specs.Choice.{pick}
 use Rattle.terms.specs.Reply.{Reply, is, refused}
+use Rattle.records.specs.Longest.{longestResult}
+use Rattle.walk.specs.Table.{roleOf}
 use Rattle.day.specs.declared.offer.Step.{Step}
 use Rattle.day.specs.Days.{fresh}
 use Rattle.day.specs.Offers.{offerOf, writtenOf}
@@ -14,7 +16,7 @@ use Rattle.listing.specs.declared.list.Listing.{Listing}
 use Rattle.listing.specs.declared.list.Part.{Part}
 use Rattle.listing.specs.declared.list.Listed.the-variants.{Taken, Refused, Done}
 use Rattle.listing.specs.Lines.{refusedLine}
-use Rattle.listing.specs.Listing.{longestResult, further, outcome, acceptedLines, over, listOf}
+use Rattle.listing.specs.Listing.{further, outcome, acceptedLines, over, listOf}
 
 -- the list after what was accepted
 abbrev pub following : Listing → Step → Listing
@@ -22,7 +24,7 @@ following l step = record { day = step .day; place = further (l .place) (step .u
 
 -- a refusal's line, or the lines of what was accepted and then those of what follows it
 unfoldable pub onward : Listing → List ℕ → Reply Step → (Listing → List ℕ → List ℕ) → List ℕ
-onward l s (is step) rest = acceptedLines (byteAt s 0) (step .day) (writtenOf s) ++ rest (following l step) (drop (step .used) s)
+onward l s (is step) rest = acceptedLines (roleOf (byteAt s 0)) (step .day) (writtenOf s) ++ rest (following l step) (drop (step .used) s)
 onward l s (refused number inside) rest = refusedLine number (further (l .place) inside)
 
 -- at most n records and blocks more, from what is left of the input

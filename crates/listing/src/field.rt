@@ -2,8 +2,8 @@
 ghost use mathlib.Core.List.{[], _∷_};
 ghost use Prim.Native.Nat.{_+_, _≤_};
 ghost use lib.ListN.{length};
-ghost use Rattle.listing.specs.Lines.{decimal, signedDecimal};
-ghost use Rattle.listing.specs.Laying.{Lays};
+ghost use Rattle.listing.specs.Lines.{decimal, signedDecimal, u8Field, u16Field, u32Field, u64Field, i32Field};
+ghost use Rattle.listing.specs.Inner.{Lays};
 use crate::number::digit_count;
 use crate::number::lay_digits;
 use crate::number::long_count;
@@ -46,29 +46,29 @@ fn lay_field(out: &mut [u8], at: usize, n: u32) -> usize
 }
 
 pub fn lay_u8_field(out: &mut [u8], at: usize, n: u8) -> usize
-    requires { ⌜ at + 4 ≤ length (now out) ⌝ }
-    ensures { λ r. ⌜ Lays (now (out .entry)) at (32 ∷ decimal n) 4 r (now (out .exit)) ⌝ }
+    requires { ⌜ at + u8Field ≤ length (now out) ⌝ }
+    ensures { λ r. ⌜ Lays (now (out .entry)) at (32 ∷ decimal n) u8Field r (now (out .exit)) ⌝ }
 {
     lay_field(out, at, n as u32)
 }
 
 pub fn lay_u16_field(out: &mut [u8], at: usize, n: u16) -> usize
-    requires { ⌜ at + 6 ≤ length (now out) ⌝ }
-    ensures { λ r. ⌜ Lays (now (out .entry)) at (32 ∷ decimal n) 6 r (now (out .exit)) ⌝ }
+    requires { ⌜ at + u16Field ≤ length (now out) ⌝ }
+    ensures { λ r. ⌜ Lays (now (out .entry)) at (32 ∷ decimal n) u16Field r (now (out .exit)) ⌝ }
 {
     lay_field(out, at, n as u32)
 }
 
 pub fn lay_u32_field(out: &mut [u8], at: usize, n: u32) -> usize
-    requires { ⌜ at + 11 ≤ length (now out) ⌝ }
-    ensures { λ r. ⌜ Lays (now (out .entry)) at (32 ∷ decimal n) 11 r (now (out .exit)) ⌝ }
+    requires { ⌜ at + u32Field ≤ length (now out) ⌝ }
+    ensures { λ r. ⌜ Lays (now (out .entry)) at (32 ∷ decimal n) u32Field r (now (out .exit)) ⌝ }
 {
     lay_field(out, at, n)
 }
 
 pub fn lay_u64_field(out: &mut [u8], at: usize, n: u64) -> usize
-    requires { ⌜ at + 21 ≤ length (now out) ⌝ }
-    ensures { λ r. ⌜ Lays (now (out .entry)) at (32 ∷ decimal n) 21 r (now (out .exit)) ⌝ }
+    requires { ⌜ at + u64Field ≤ length (now out) ⌝ }
+    ensures { λ r. ⌜ Lays (now (out .entry)) at (32 ∷ decimal n) u64Field r (now (out .exit)) ⌝ }
 {
     let count = long_count(n);
     lay_u8(out, at, SPACE);
@@ -78,8 +78,8 @@ pub fn lay_u64_field(out: &mut [u8], at: usize, n: u64) -> usize
 
 // A negative quantity, whose size is below 2 ^ 32, has its sign between the space and the digits.
 fn lay_negative(out: &mut [u8], at: usize, size: u32) -> usize
-    requires { ⌜ at + 12 ≤ length (now out) ⌝ }
-    ensures { λ r. ⌜ Lays (now (out .entry)) at (32 ∷ 45 ∷ decimal size) 12 r (now (out .exit)) ⌝ }
+    requires { ⌜ at + i32Field ≤ length (now out) ⌝ }
+    ensures { λ r. ⌜ Lays (now (out .entry)) at (32 ∷ 45 ∷ decimal size) i32Field r (now (out .exit)) ⌝ }
 {
     lay_u8(out, at, SPACE);
     lay_u8(out, at + 1, MINUS);
@@ -87,8 +87,8 @@ fn lay_negative(out: &mut [u8], at: usize, size: u32) -> usize
 }
 
 pub fn lay_i32_field(out: &mut [u8], at: usize, z: i32) -> usize
-    requires { ⌜ at + 12 ≤ length (now out) ⌝ }
-    ensures { λ r. ⌜ Lays (now (out .entry)) at (32 ∷ signedDecimal z) 12 r (now (out .exit)) ⌝ }
+    requires { ⌜ at + i32Field ≤ length (now out) ⌝ }
+    ensures { λ r. ⌜ Lays (now (out .entry)) at (32 ∷ signedDecimal z) i32Field r (now (out .exit)) ⌝ }
 {
     let size = magnitude(z);
     if z < 0 {

@@ -2,11 +2,13 @@
 ghost use mathlib.Core.List.{[], _∷_};
 ghost use Prim.Native.Nat.{_+_, _*_, _≤_};
 ghost use lib.ListN.{length};
-ghost use Rattle.numbers.specs.Bytes.{byteAt, be16, be32, signed32};
-ghost use Rattle.records.specs.Layouts.{groupResultAt, unitResultAt};
+ghost use Rattle.numbers.specs.Bytes.{be32, signed32};
+ghost use Rattle.records.specs.Layouts.{groupResultLength, groupResultAt, unitResultLength, unitResultAt};
+ghost use Rattle.terms.specs.Checks.{mostUnits};
+ghost use Rattle.writers.specs.Results.{resultLength};
 ghost use Rattle.writers.specs.Runs.{run};
-ghost use Rattle.listing.specs.Lines.{decimal, signedDecimal, spaced, dayLine, groupLine, unitLine, unitLineAt, endLine, refusedLine, resultLines};
-ghost use Rattle.listing.specs.Laying.{Lays, Readable};
+ghost use Rattle.listing.specs.Lines.{decimal, signedDecimal, spaced, dayLine, groupLine, unitLine, unitLineAt, endLine, refusedLine, resultLines, i32Field, longestDayLine, longestEndLine, longestRefusedLine, longestGroupFront, longestGroupLine, longestUnitLine, longestLines};
+ghost use Rattle.listing.specs.Inner.{Lays, Readable};
 use crate::field::lay_feed;
 use crate::field::lay_i32_field;
 use crate::field::lay_u8_field;
@@ -21,8 +23,8 @@ use records::group_result::GroupResult;
 use records::unit_result::UnitResult;
 
 pub fn lay_day_line(out: &mut [u8], at: usize, d: DayRecord) -> usize
-    requires { ⌜ at + 25 ≤ length (now out) ⌝ }
-    ensures { λ r. ⌜ Lays (now (out .entry)) at (dayLine d) 25 r (now (out .exit)) ⌝ }
+    requires { ⌜ at + longestDayLine ≤ length (now out) ⌝ }
+    ensures { λ r. ⌜ Lays (now (out .entry)) at (dayLine d) longestDayLine r (now (out .exit)) ⌝ }
 {
     let word = lay_word(out, at, b"DAY");
     let day = lay_u16_field(out, word, d.day);
@@ -32,8 +34,8 @@ pub fn lay_day_line(out: &mut [u8], at: usize, d: DayRecord) -> usize
 }
 
 pub fn lay_end_line(out: &mut [u8], at: usize, groups: u32) -> usize
-    requires { ⌜ at + 15 ≤ length (now out) ⌝ }
-    ensures { λ r. ⌜ Lays (now (out .entry)) at (endLine groups) 15 r (now (out .exit)) ⌝ }
+    requires { ⌜ at + longestEndLine ≤ length (now out) ⌝ }
+    ensures { λ r. ⌜ Lays (now (out .entry)) at (endLine groups) longestEndLine r (now (out .exit)) ⌝ }
 {
     let word = lay_word(out, at, b"END");
     let counted = lay_u32_field(out, word, groups);
@@ -41,8 +43,8 @@ pub fn lay_end_line(out: &mut [u8], at: usize, groups: u32) -> usize
 }
 
 pub fn lay_refused_line(out: &mut [u8], at: usize, number: u8, place: u64) -> usize
-    requires { ⌜ at + 33 ≤ length (now out) ⌝ }
-    ensures { λ r. ⌜ Lays (now (out .entry)) at (refusedLine number place) 33 r (now (out .exit)) ⌝ }
+    requires { ⌜ at + longestRefusedLine ≤ length (now out) ⌝ }
+    ensures { λ r. ⌜ Lays (now (out .entry)) at (refusedLine number place) longestRefusedLine r (now (out .exit)) ⌝ }
 {
     let word = lay_word(out, at, b"REFUSED");
     let numbered = lay_u8_field(out, word, number);
@@ -52,8 +54,8 @@ pub fn lay_refused_line(out: &mut [u8], at: usize, number: u8, place: u64) -> us
 
 // GROUP and the fields before the quantities.
 fn lay_group_front(out: &mut [u8], at: usize, result: &[u8]) -> usize
-    requires { ⌜ (27 ≤ length (now result)) × (at + 27 ≤ length (now out)) ⌝ }
-    ensures { λ r. ⌜ Lays (now (out .entry)) at (spaced (71 ∷ 82 ∷ 79 ∷ 85 ∷ 80 ∷ []) (decimal (be16 (now (result .entry)) 1) ∷ decimal (byteAt (now (result .entry)) 3) ∷ decimal (byteAt (now (result .entry)) 4) ∷ decimal (byteAt (now (result .entry)) 5) ∷ decimal (byteAt (now (result .entry)) 6) ∷ [])) 27 r (now (out .exit)) ⌝ }
+    requires { ⌜ (groupResultLength ≤ length (now result)) × (at + longestGroupFront ≤ length (now out)) ⌝ }
+    ensures { λ r. ⌜ Lays (now (out .entry)) at (spaced (71 ∷ 82 ∷ 79 ∷ 85 ∷ 80 ∷ []) (decimal (groupResultAt (now (result .entry)) 0 .brp) ∷ decimal (groupResultAt (now (result .entry)) 0 .zone) ∷ decimal (groupResultAt (now (result .entry)) 0 .quarter) ∷ decimal (groupResultAt (now (result .entry)) 0 .verdict) ∷ decimal (groupResultAt (now (result .entry)) 0 .count) ∷ [])) longestGroupFront r (now (out .exit)) ⌝ }
 {
     let brp = u16_at(result, GroupResult::BRP);
     let word = lay_word(out, at, b"GROUP");
@@ -66,8 +68,8 @@ fn lay_group_front(out: &mut [u8], at: usize, result: &[u8]) -> usize
 
 // Four quantities, which stand one after another from a place of the result on.
 fn lay_quantities(out: &mut [u8], at: usize, result: &[u8], from: usize) -> usize
-    requires { ⌜ (from + 16 ≤ length (now result)) × (at + 48 ≤ length (now out)) ⌝ }
-    ensures { λ r. ⌜ Lays (now (out .entry)) at (spaced [] (signedDecimal (signed32 (be32 (now (result .entry)) from)) ∷ signedDecimal (signed32 (be32 (now (result .entry)) (from + 4))) ∷ signedDecimal (signed32 (be32 (now (result .entry)) (from + 8))) ∷ signedDecimal (signed32 (be32 (now (result .entry)) (from + 12))) ∷ [])) 48 r (now (out .exit)) ⌝ }
+    requires { ⌜ (from + 16 ≤ length (now result)) × (at + i32Field * 4 ≤ length (now out)) ⌝ }
+    ensures { λ r. ⌜ Lays (now (out .entry)) at (spaced [] (signedDecimal (signed32 (be32 (now (result .entry)) from)) ∷ signedDecimal (signed32 (be32 (now (result .entry)) (from + 4))) ∷ signedDecimal (signed32 (be32 (now (result .entry)) (from + 8))) ∷ signedDecimal (signed32 (be32 (now (result .entry)) (from + 12))) ∷ [])) (i32Field * 4) r (now (out .exit)) ⌝ }
 {
     let a = lay_i32_field(out, at, i32_at(result, from));
     let b = lay_i32_field(out, a, i32_at(result, from + 4));
@@ -76,8 +78,8 @@ fn lay_quantities(out: &mut [u8], at: usize, result: &[u8], from: usize) -> usiz
 }
 
 fn lay_group_line(out: &mut [u8], at: usize, result: &[u8]) -> usize
-    requires { ⌜ (27 ≤ length (now result)) × (at + 88 ≤ length (now out)) ⌝ }
-    ensures { λ r. ⌜ Lays (now (out .entry)) at (groupLine (groupResultAt (now (result .entry)) 0)) 88 r (now (out .exit)) ⌝ }
+    requires { ⌜ (groupResultLength ≤ length (now result)) × (at + longestGroupLine ≤ length (now out)) ⌝ }
+    ensures { λ r. ⌜ Lays (now (out .entry)) at (groupLine (groupResultAt (now (result .entry)) 0)) longestGroupLine r (now (out .exit)) ⌝ }
 {
     let balance = i32_at(result, GroupResult::BALANCE);
     let front = lay_group_front(out, at, result);
@@ -87,8 +89,8 @@ fn lay_group_line(out: &mut [u8], at: usize, result: &[u8]) -> usize
 }
 
 fn lay_unit_line(out: &mut [u8], at: usize, result: &[u8], from: usize) -> usize
-    requires { ⌜ (from + 20 ≤ length (now result)) × (at + 63 ≤ length (now out)) ⌝ }
-    ensures { λ r. ⌜ Lays (now (out .entry)) at (unitLine (unitResultAt (now (result .entry)) from)) 63 r (now (out .exit)) ⌝ }
+    requires { ⌜ (from + unitResultLength ≤ length (now result)) × (at + longestUnitLine ≤ length (now out)) ⌝ }
+    ensures { λ r. ⌜ Lays (now (out .entry)) at (unitLine (unitResultAt (now (result .entry)) from)) longestUnitLine r (now (out .exit)) ⌝ }
 {
     let number = u16_at(result, from + UnitResult::NUMBER);
     let word = lay_word(out, at, b"UNIT");
@@ -100,8 +102,8 @@ fn lay_unit_line(out: &mut [u8], at: usize, result: &[u8], from: usize) -> usize
 
 // A line for each of so many units.
 fn lay_unit_lines(out: &mut [u8], at: usize, result: &[u8], count: usize) -> usize
-    requires { ⌜ (count ≤ 64) × ((27 + 20 * count ≤ length (now result)) × (at + 63 * count ≤ length (now out))) ⌝ }
-    ensures { λ r. ⌜ Lays (now (out .entry)) at (run (unitLineAt (now (result .entry))) count) (63 * count) r (now (out .exit)) ⌝ }
+    requires { ⌜ (count ≤ mostUnits) × ((resultLength count ≤ length (now result)) × (at + longestUnitLine * count ≤ length (now out))) ⌝ }
+    ensures { λ r. ⌜ Lays (now (out .entry)) at (run (unitLineAt (now (result .entry))) count) (longestUnitLine * count) r (now (out .exit)) ⌝ }
 {
     let mut here = at;
     let mut i = 0;
@@ -112,10 +114,10 @@ fn lay_unit_lines(out: &mut [u8], at: usize, result: &[u8], count: usize) -> usi
     here
 }
 
-// The lines of a block's result: 88 bytes at most for its group, and 63 for each unit.
+// The lines of a block's result: that of its group, and one for each unit.
 pub fn lay_result_lines(out: &mut [u8], at: usize, result: &[u8]) -> usize
-    requires { ⌜ Readable (now result) × (at + 4120 ≤ length (now out)) ⌝ }
-    ensures { λ r. ⌜ Lays (now (out .entry)) at (resultLines (now (result .entry))) 4120 r (now (out .exit)) ⌝ }
+    requires { ⌜ Readable (now result) × (at + longestLines ≤ length (now out)) ⌝ }
+    ensures { λ r. ⌜ Lays (now (out .entry)) at (resultLines (now (result .entry))) longestLines r (now (out .exit)) ⌝ }
 {
     let units = lay_group_line(out, at, result);
     lay_unit_lines(out, units, result, result[GroupResult::COUNT] as usize)

@@ -4,7 +4,10 @@ ghost use Prim.Native.Nat.{_≤_};
 ghost use lib.ListN.{length};
 ghost use Rattle.terms.specs.Refusals.{numberOf};
 ghost use Rattle.day.specs.Offers.{offerOf};
-ghost use Rattle.listing.specs.Laying.{Lays, Readable};
+ghost use Rattle.records.specs.Longest.{longestResult};
+ghost use Rattle.walk.specs.declared.table.Role.the-variants.{Block};
+ghost use Rattle.listing.specs.Lines.{longestLines};
+ghost use Rattle.listing.specs.Inner.{Lays, Readable};
 ghost use Rattle.listing.specs.Listing.{acceptedLines, listTaken, listRefused, listReply, waits, over, listOf, Lists};
 use crate::lines::lay_day_line;
 use crate::lines::lay_end_line;
@@ -14,10 +17,12 @@ use day::offer::Offered;
 use day::offer::Step;
 use day::offer::offer;
 use day::value::Day;
-use records::day::DayRecord;
 use records::group::GroupRecord;
+use records::unit::UnitRecord;
 use std::num::wrapping_add_u64;
 use terms::refusal::Refusal;
+use walk::table::Role;
+use walk::table::role_of;
 
 // The day so far, and how many bytes of the input were listed.
 pub struct Listing {
@@ -27,7 +32,7 @@ pub struct Listing {
 
 impl Listing {
     // A block's most bytes, and those of its lines.
-    pub const BLOCK: usize = 1674;
+    pub const BLOCK: usize = GroupRecord::LEN + UnitRecord::LEN * (GroupRecord::UNITS as usize);
 
     pub const LINES: usize = 4120;
 }
@@ -70,27 +75,25 @@ fn must_wait(s: &[u8], ended: bool) -> bool
     s.len() < Listing::BLOCK
 }
 
-// The lines of what was accepted, by its kind.
-fn lay_accepted(room: &mut [u8], kind: u8, day: Day, result: &[u8]) -> usize
-    requires { ⌜ (kind ≡ 2 → Readable (now result)) × (4120 ≤ length (now room)) ⌝ }
-    ensures { λ r. ⌜ Lays (now (room .entry)) 0 (acceptedLines kind day (now (result .entry))) 4120 r (now (room .exit)) ⌝ }
+// The lines of what was accepted, by what it is to the day.
+fn lay_accepted(room: &mut [u8], role: Role, day: Day, result: &[u8]) -> usize
+    requires { ⌜ (role ≡ Block → Readable (now result)) × (longestLines ≤ length (now room)) ⌝ }
+    ensures { λ r. ⌜ Lays (now (room .entry)) 0 (acceptedLines role day (now (result .entry))) longestLines r (now (room .exit)) ⌝ }
 {
-    if kind == DayRecord::KIND {
-        let record = day.record;
-        return lay_day_line(room, 0, record);
+    let record = day.record;
+    match role {
+        Role::Opens => lay_day_line(room, 0, record),
+        Role::Block => lay_result_lines(room, 0, result),
+        Role::Closes => lay_end_line(room, 0, day.groups),
     }
-    if kind == GroupRecord::KIND {
-        return lay_result_lines(room, 0, result);
-    }
-    lay_end_line(room, 0, day.groups)
 }
 
-fn list_taken(place: u64, step: Step, kind: u8, result: &[u8], room: &mut [u8]) -> Listed
-    requires { ⌜ (kind ≡ 2 → Readable (now result)) × (4120 ≤ length (now room)) ⌝ }
-    ensures { λ r. ⌜ Lists (listTaken place step kind (now (result .entry))) (now (room .entry)) r (now (room .exit)) ⌝ }
+fn list_taken(place: u64, step: Step, role: Role, result: &[u8], room: &mut [u8]) -> Listed
+    requires { ⌜ (role ≡ Block → Readable (now result)) × (longestLines ≤ length (now room)) ⌝ }
+    ensures { λ r. ⌜ Lists (listTaken place step role (now (result .entry))) (now (room .entry)) r (now (room .exit)) ⌝ }
 {
     let day = step.day;
-    let written = lay_accepted(room, kind, day, result);
+    let written = lay_accepted(room, role, day, result);
     let after = wrapping_add_u64(place, step.used as u64);
     Listed::Taken(Part {
         used: step.used,
@@ -100,7 +103,7 @@ fn list_taken(place: u64, step: Step, kind: u8, result: &[u8], room: &mut [u8]) 
 }
 
 fn list_refused(place: u64, r: Refusal, room: &mut [u8]) -> Listed
-    requires { ⌜ 4120 ≤ length (now room) ⌝ }
+    requires { ⌜ longestLines ≤ length (now room) ⌝ }
     ensures { λ a. ⌜ Lists (listRefused place (numberOf (r .why)) (r .place)) (now (room .entry)) a (now (room .exit)) ⌝ }
 {
     let why = r.why;
@@ -110,25 +113,25 @@ fn list_refused(place: u64, r: Refusal, room: &mut [u8]) -> Listed
 
 // The step, by way of room for a result.
 fn list_through(l: Listing, s: &[u8], result: &mut [u8], room: &mut [u8]) -> Listed
-    requires { ⌜ (length (now result) ≡ 1307) × (4120 ≤ length (now room)) ⌝ }
-    ensures { λ r. ⌜ Lists (listReply (l .place) (now (s .entry)) (offerOf (l .day) (now (s .entry)) 1307)) (now (room .entry)) r (now (room .exit)) ⌝ }
+    requires { ⌜ (length (now result) ≡ longestResult) × (longestLines ≤ length (now room)) ⌝ }
+    ensures { λ r. ⌜ Lists (listReply (l .place) (now (s .entry)) (offerOf (l .day) (now (s .entry)) longestResult)) (now (room .entry)) r (now (room .exit)) ⌝ }
 {
     let day = l.day;
     match offer(day, s, result) {
-        Offered::Taken(step) => list_taken(l.place, step, s[0], result, room),
+        Offered::Taken(step) => list_taken(l.place, step, role_of(s[0]), result, room),
         Offered::Refused(r, _) => list_refused(l.place, r, room),
     }
 }
 
 fn result_room() -> [u8; 1307]
-    ensures { λ r. ⌜ 1307 ≡ length r ⌝ }
+    ensures { λ r. ⌜ longestResult ≡ length r ⌝ }
 {
     [0; 1307]
 }
 
 fn list_offer(l: Listing, s: &[u8], room: &mut [u8]) -> Listed
-    requires { ⌜ 4120 ≤ length (now room) ⌝ }
-    ensures { λ r. ⌜ Lists (listReply (l .place) (now (s .entry)) (offerOf (l .day) (now (s .entry)) 1307)) (now (room .entry)) r (now (room .exit)) ⌝ }
+    requires { ⌜ longestLines ≤ length (now room) ⌝ }
+    ensures { λ r. ⌜ Lists (listReply (l .place) (now (s .entry)) (offerOf (l .day) (now (s .entry)) longestResult)) (now (room .entry)) r (now (room .exit)) ⌝ }
 {
     let mut result = result_room();
     list_through(l, s, &mut result, room)

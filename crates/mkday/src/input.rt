@@ -1,17 +1,13 @@
 // The lines of standard input, one at a time.
 ghost use Prim.Native.Nat.{_≤_};
-use crate::outcome::Outcome;
-use crate::outcome::Step;
-use crate::outcome::refused;
 use libc::STDIN_FILENO;
+use text::line::LONGEST;
 
 const LINE_FEED: u8 = 10;
 
-const CARRIAGE_RETURN: u8 = 13;
-
 // A line that fills this is too long.
-pub fn blank() -> [u8; 256] {
-    [0; 256]
+pub fn blank() -> [u8; LONGEST + 1] {
+    [0; LONGEST + 1]
 }
 
 // Where the reading stands: the next byte and the end of the chunk, the lines so far, and the length of the one at hand.
@@ -58,62 +54,32 @@ pub fn least(a: usize, b: usize) -> usize
     if a < b { a } else { b }
 }
 
-// The length of a line without the carriage return that it may end in.
-fn text_length(line: &[u8], length: usize) -> usize {
-    if length == 0 {
-        return 0;
-    }
-    if line.len() <= length {
-        return length;
-    }
-    if line[length - 1] == CARRIAGE_RETURN {
-        return length - 1;
-    }
-    length
-}
-
-// Whether a line is to be a record: it has text, and is no comment.
-fn is_record(line: &[u8], length: usize) -> bool {
-    if length == 0 {
-        return false;
-    }
-    if line.len() == 0 {
-        return false;
-    }
-    line[0] != b'#'
-}
-
 // A line is over.
-fn end_line(input: Input, line: &[u8]) -> Took {
-    let length = text_length(line, input.length);
-    let after = Input {
+fn end_line(input: Input) -> Took {
+    Took::Line(Input {
         at: input.at,
         end: input.end,
         lines: std::num::wrapping_add_u64(input.lines, 1),
-        length,
-    };
-    if is_record(line, length) {
-        return Took::Line(after);
-    }
-    Took::More(after.emptied())
+        length: input.length,
+    })
 }
 
 // The input is over, and with it a last line that has no line feed.
-fn end_text(input: Input, line: &[u8]) -> Took {
+fn end_text(input: Input) -> Took {
     if input.length == 0 {
         return Took::Ended(input);
     }
-    end_line(input, line)
+    end_line(input)
 }
 
 // The next bytes, where those of the chunk are used up.
-fn refill(input: Input, chunk: &mut [u8], line: &[u8]) -> Took {
+fn refill(input: Input, chunk: &mut [u8]) -> Took {
     let got = libc::read(STDIN_FILENO, chunk);
     if got < 0 {
         return Took::Failed;
     }
     if got == 0 {
-        return end_text(input, line);
+        return end_text(input);
     }
     Took::More(Input {
         at: 0,
@@ -135,7 +101,7 @@ fn keep(line: &mut [u8], length: usize, byte: u8) -> usize {
 // A byte of the input, the place of the next one given.
 fn take_byte(input: Input, byte: u8, line: &mut [u8]) -> Took {
     if byte == LINE_FEED {
-        return end_line(input, line);
+        return end_line(input);
     }
     Took::More(Input {
         at: input.at,
@@ -157,10 +123,10 @@ fn take(input: Input, chunk: &mut [u8], line: &mut [u8]) -> Took {
         };
         return take_byte(after, chunk[at], line);
     }
-    refill(input, chunk, line)
+    refill(input, chunk)
 }
 
-// The next line that is to be a record. Nothing says that the input ends, so the turns are counted down from a number that no run uses up.
+// The next line. Nothing says that the input ends, so the turns are counted down from a number that no run uses up.
 pub fn next_line(from: Input, chunk: &mut [u8], line: &mut [u8]) -> Took {
     let mut input = from.emptied();
     let mut left = u64::MAX;
@@ -173,19 +139,4 @@ pub fn next_line(from: Input, chunk: &mut [u8], line: &mut [u8]) -> Took {
         left -= 1;
     }
     Took::Failed
-}
-
-// The next line where one has to come: 1 where the text stops, 0 where the line is too long.
-pub fn due_line(from: Input, chunk: &mut [u8], line: &mut [u8]) -> Step {
-    let took = next_line(from, chunk, line);
-    match took {
-        Took::Line(input) => {
-            if line.len() <= input.length {
-                return refused(0, input.lines);
-            }
-            Step::On(input)
-        }
-        Took::Ended(input) => refused(1, std::num::wrapping_add_u64(input.lines, 1)),
-        _ => Step::Stopped(Outcome::Unread),
-    }
 }

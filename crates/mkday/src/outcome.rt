@@ -1,7 +1,5 @@
-// How a run goes on, or ends.
-ghost use Prim.Native.Nat.{_≤_};
-ghost use lib.ListN.{length};
-use crate::input::Input;
+// How a run ends.
+use crate::input::least;
 use libc::STDERR_FILENO;
 use libc::STDOUT_FILENO;
 
@@ -13,33 +11,10 @@ pub enum Outcome {
     Unwritten,
 }
 
-pub enum Step {
-    On(Input),
-    Stopped(Outcome),
-}
-
-impl Step {
-    // The outcome of a step that stopped: `let .. else` does not bind it.
-    pub fn outcome(self) -> Outcome {
-        match self {
-            Step::On(_) => Outcome::Whole,
-            Step::Stopped(o) => o,
-        }
-    }
-}
-
-pub fn refused(number: u8, line: u64) -> Step {
-    Step::Stopped(Outcome::Refused(number, line))
-}
-
-// Writes a record or a block, the first bytes of the room, and goes on.
-pub fn written(input: Input, room: &[u8], bytes: usize) -> Step
-    requires { ⌜ bytes ≤ length (now room) ⌝ }
-{
-    if !io::write_all(STDOUT_FILENO, &room[..bytes]) {
-        return Step::Stopped(Outcome::Unwritten);
-    }
-    Step::On(input)
+// Writes the first bytes of the room, and tells whether it could.
+pub fn written(room: &[u8], bytes: usize) -> bool {
+    let length = least(bytes, room.len());
+    io::write_all(STDOUT_FILENO, &room[..length])
 }
 
 fn tell_refusal(number: u8, line: u64) {

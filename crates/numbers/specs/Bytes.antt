@@ -37,11 +37,6 @@ signed32 x = toZ w32 x
 abbrev pub bits32 : ℤ → ℕ
 bits32 z = ofZ w32 z
 
--- r is the value v, and lies below its limit
-pub record Field (v limit r : ℕ) : Type 0 where
-  pub is : r ≡ v
-  pub below : r < limit
-
 -- the list with these bytes stored from a place on
 unfoldable pub laidAt : List ℕ → ℕ → List ℕ → List ℕ
 laidAt l at bytes = take at l ++ bytes ++ drop (at + length bytes) l

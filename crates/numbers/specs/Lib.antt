@@ -4,3 +4,4 @@ pub mod Range
 pub mod Column
 pub mod Sum
 pub mod Bytes
+pub mod Inner

@@ -3,7 +3,8 @@ ghost use mathlib.Core.Path.{_≡_};
 ghost use mathlib.Core.List.{[], _∷_};
 ghost use Prim.Native.Nat.{_+_, _≤_, _<_};
 ghost use lib.ListN.{length};
-ghost use Rattle.numbers.specs.Bytes.{byteAt, be16, be32, bytes16, bytes32, signed32, bits32, laidAt, Field};
+ghost use Rattle.numbers.specs.Bytes.{byteAt, be16, be32, bytes16, bytes32, signed32, bits32, laidAt};
+ghost use Rattle.numbers.specs.Inner.{Field};
 use crate::signed::from_bits;
 use crate::signed::to_bits;
 

@@ -15,7 +15,7 @@ use Rattle.numbers.specs.Sum.{sum, sumTo, bit, count}
 use Rattle.numbers.proofs.Choices.{pick-ind}
 use Rattle.numbers.proofs.Sums.{sumTo-none, count-one, count-cong, ltb-iff}
 use Rattle.quota.specs.Quota.{rest, ahead, before, rank, still}
-use Rattle.quota.specs.Keys.{keyOf, key, unitOf, rankedOf, above, deals, dealt}
+use Rattle.quota.specs.Inner.{keyOf, key, unitOf, rankedOf, above, deals, dealt}
 use Rattle.quota.proofs.Shares.{dealt-rest}
 
 -- a key is below another just where the other's unit comes before

@@ -14,8 +14,8 @@ use Rattle.numbers.specs.Column.{column}
 use Rattle.numbers.specs.Sum.{sum, sumTo, bit, count}
 use Rattle.numbers.proofs.Columns.{column-length, column-at, column-past, is-column, column-ext, set-more}
 use Rattle.numbers.proofs.Sums.{count-one, sumTo-one, sumTo-mono, sumTo-none, sum-bound}
-use Rattle.quota.specs.Quota.{whole, rest, before, rank, still, cutAt, cutsOf, Asked}
-use Rattle.quota.specs.Keys.{keyOf, key, unitOf, rankedOf, above, deals, dealt}
+use Rattle.quota.specs.Quota.{whole, rest, before, rank, still, cutAt, cutsOf}
+use Rattle.quota.specs.Inner.{keyOf, key, unitOf, rankedOf, above, deals, dealt, Asked}
 use Rattle.quota.proofs.Ranks.{key-unit, ranked-same, ranked-more, ranked-fits, ranked-each, dealt-is}
 use Rattle.quota.proofs.Shares.{share, wholes-le}
 

@@ -39,17 +39,6 @@ cutAt s c i = whole s c i + bit (ltb (rank (before s c) (length s) i) (still s c
 unfoldable pub cutsOf : List ℕ → ℕ → List ℕ
 cutsOf s c = column (length s) (cutAt s c)
 
--- the sizes of a group: at most 64, none above 1,000,000
-pub record Sized (s : List ℕ) : Type 0 where
-  pub few : length s ≤ 64
-  pub small : (i : ℕ) → getD s i 0 ≤ 1000000
-
--- what a caller of the cut has to show: t is the sum of the sizes, and no more than it is cut
-pub record Asked (s : List ℕ) (t c : ℕ) : Type 0 where
-  pub sized : Sized s
-  pub total : t ≡ sum s
-  pub within : c ≤ t
-
 -- what the cuts r of c over the sizes s, whose sum is above 0, owe the units whatever the rule (demand 3 over one class)
 pub record Fair (s : List ℕ) (c : ℕ) (r : List ℕ) : Type 0 where
   -- they add up to the cut

@@ -4,8 +4,8 @@ ghost use mathlib.Core.Path.{_≡_};
 ghost use Prim.Native.Nat.{ℕ, _+_, _*_, _/_, _%_, _≤_, _<_};
 ghost use lib.ListN.{length, getD, drop};
 ghost use Rattle.numbers.specs.Column.{column};
-ghost use Rattle.quota.specs.Quota.{whole, still, cutsOf, Asked};
-ghost use Rattle.quota.specs.Keys.{key, unitOf, rankedOf, above, dealt};
+ghost use Rattle.quota.specs.Quota.{whole, still, cutsOf};
+ghost use Rattle.quota.specs.Inner.{key, unitOf, rankedOf, above, dealt, Asked};
 
 // An exact share C·n / T: its whole part and its remainder.
 struct Share {

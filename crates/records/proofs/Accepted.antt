@@ -2,27 +2,30 @@
 use Prim.Native.Nat.{ℕ, zero, suc, _+_, _*_, _≤_, _<_}
 use native.Mathlib.Nat.{not-suc-le-zero}
 use native.Mathlib.Omega.{arith}
-use mathlib.Core.Path.{_≡_}
-use mathlib.Core.Bool.{true}
+use mathlib.Core.Path.{_≡_, _∙_}
+use mathlib.Core.Bool.{true, _||_}
 use mathlib.Core.List.{List}
 use lib.Dec.{eqb}
 use lib.IntN.{ℤ, pos, negℤ}
+use lib.ListN.{length}
 use lib.Signed.{leZ}
 use borrow.Author.Tests.{leb-true}
 use Rattle.numbers.specs.Range.{Within}
-use Rattle.numbers.specs.Choice.{pick}
+use Rattle.numbers.specs.Choice.{pick, eqZ}
 use Rattle.numbers.proofs.Integers.{zarith, neg, one-side, by-test}
 use Rattle.terms.specs.Reply.{is}
-use Rattle.terms.specs.Quantities.{consideredOf}
-use Rattle.terms.specs.Checks.{inRange, amountChecks}
+use Rattle.terms.specs.Quantities.{knownClass, implicit, consideredOf}
+use Rattle.terms.specs.Checks.{inRange, marginChecks, amountChecks}
 use Rattle.terms.specs.declared.refusal.Checked.the-variants.{Fine}
 use Rattle.terms.proofs.Replies.{next-is}
 use Rattle.terms.proofs.Passing.{passes}
 use Rattle.records.specs.declared.unit.UnitRecord.{UnitRecord}
-use Rattle.records.specs.Layouts.{unitAt}
-use Rattle.records.specs.Reading.{unitFieldsOf, unitOf, unitsOf, unitFaults, valueFaults, markFaults, unitIn}
+use Rattle.records.specs.Layouts.{groupLength, unitLength, unitAt, marginsOf}
+use Rattle.records.specs.Reading.{unitEnd, placeFrom, unitPlace, unitIn, unitFieldsOf, unitOf, unitsOf, unitFaults, valueFaults, markFaults}
 use Rattle.records.specs.Decoding.{unitN0}
 use Rattle.records.proofs.Checks.{both, also-fine, passed-is}
+use Rattle.records.proofs.Places.{place-later, unit-stride}
+use Rattle.records.proofs.Turns.{unit-long}
 
 -- a quantity in its range
 pub range-within : (z : ℤ) → inRange z ≡ true → Within 1000000 z
@@ -35,30 +38,32 @@ range-within z e =
 -- the considered nomination is N, -PC or 0
 pub n0-within : (nominated coincide : ℕ) (n pc : ℤ) → Within 1000000 n → Within 1000000 pc → Within 1000000 (consideredOf nominated coincide n pc)
 n0-within nominated coincide n pc hn hp =
-    by-test (eqb nominated 1) (λ t. Within 1000000 (pick t n (pick (eqb coincide 1) (negℤ pc) (pos 0))))
+    by-test (eqb nominated 1) (λ t. Within 1000000 (pick t n (pick (implicit nominated coincide) (negℤ pc) (pos 0))))
     (λ h. hn)
-    (λ h. by-test (eqb coincide 1) (λ t. Within 1000000 (pick t (negℤ pc) (pos 0))) (λ k. omega (zarith, neg pc)) (λ k. omega zarith))
+    (λ h. by-test (implicit nominated coincide) (λ t. Within 1000000 (pick t (negℤ pc) (pos 0))) (λ k. omega (zarith, neg pc)) (λ k. omega zarith))
 
 -- what the checks leave of a unit's values
 pub record Sound (u : UnitRecord) : Type 0 where
-  pub class : u .class ≤ 1
+  pub class : knownClass (u .class) ≡ true
   pub coincide : u .coincide ≤ 1
   pub nominated : u .nominated ≤ 1
+  pub stated : eqb (u .nominated) 1 || eqZ (u .n .0) (pos 0) ≡ true
   pub n : Within 1000000 (u .n .0)
   pub pc : Within 1000000 (u .pc .0)
-  pub step-down : Within 1000000 (u .«step_down»)
-  pub step-up : Within 1000000 (u .«step_up»)
+  pub step-down : Within 1000000 (marginsOf u .«step_down»)
+  pub step-up : Within 1000000 (marginsOf u .«step_up»)
   pub n0 : Within 1000000 (unitN0 u)
-  pub ordered : leZ (u .«step_down») (u .«step_up») ≡ true
+  pub ordered : leZ (marginsOf u .«step_down») (marginsOf u .«step_up») ≡ true
 
 pub sound : (u : UnitRecord) (floor : ℕ) → valueFaults u floor ≡ Fine → Sound u
-unfolding valueFaults markFaults amountChecks
+unfolding valueFaults markFaults amountChecks marginChecks
 sound u floor e =
     let a = also-fine _ _ e in
     let number = passes _ _ _ (a .0) in
     let class = passes _ _ _ (number .1) in
     let coincide = passes _ _ _ (class .1) in
     let nominated = passes _ _ _ (coincide .1) in
+    let stated = passes _ _ _ (nominated .1) in
     let n = passes _ _ _ (a .1) in
     let pc = passes _ _ _ (n .1) in
     let down = passes _ _ _ (pc .1) in
@@ -66,9 +71,10 @@ sound u floor e =
     let hn = range-within _ (n .0) in
     let hp = range-within _ (pc .0) in
     record {
-      class = leb-true _ _ (class .0);
+      class = class .0;
       coincide = leb-true _ _ (coincide .0);
       nominated = leb-true _ _ (nominated .0);
+      stated = stated .0;
       n = hn;
       pc = hp;
       step-down = range-within _ (down .0);
@@ -89,32 +95,42 @@ pub unit-sound : (s : List ℕ) (at floor run limit : ℕ) {u : UnitRecord} → 
 unfolding unitFaults
 unit-sound s at floor run limit e = sound _ floor (also-fine _ _ (unit-is s at floor run limit e .0) .0)
 
+-- units that were accepted from a place on
 pub record Accepted (s : List ℕ) (at count end : ℕ) : Type 0 where
-  pub ends : end ≡ at + 26 * count
-  pub each : (i : ℕ) → i < count → Sound (unitAt s (at + 26 * i))
+  pub ends : end ≡ placeFrom s at count
+  pub within : at + unitLength * count ≤ length s
+  pub each : (i : ℕ) → i < count → Sound (unitAt s (placeFrom s at i))
 
-pub accepted : (s : List ℕ) (at floor run limit count : ℕ) {end : ℕ} → unitsOf s at floor run limit count ≡ is end → Accepted s at count end
-unfolding unitsOf
-accepted s at floor run limit zero {end} e =
+pub units-accepted : (s : List ℕ) (at floor run limit count : ℕ) {end : ℕ} → at ≤ length s → unitsOf s at floor run limit count ≡ is end → Accepted s at count end
+unfolding unitsOf placeFrom
+units-accepted s at floor run limit zero {end} l e =
     let h : at ≡ end = cc in
-    record { ends = omega arith; each = λ i l. absurd (not-suc-le-zero l) }
-accepted s at floor run limit (suc count) {end} e =
+    record { ends = rw h; within = omega arith; each = λ i l. absurd (not-suc-le-zero l) }
+units-accepted s at floor run limit (suc count) {end} l e =
     let a = next-is _ _ e in
-    let rest = accepted s (at + 26) (a .0 .number + 1) run limit count (a .1 .1) in
-    record { ends = omega (arith, rest .ends); each = each (unit-sound s at floor run limit (a .1 .0)) (rest .each) }
+    let long = unit-long s at floor run limit (a .1 .0) in
+    let rest = units-accepted s (unitEnd s at) (a .0 .number + 1) run limit count long (a .1 .1) in
+    record {
+      ends = rest .ends ∙ place-later s at count;
+      within = omega (arith, rest .within);
+      each = each (unit-sound s at floor run limit (a .1 .0)) (rest .each);
+    }
   where
-    each : Sound (unitAt s at) → ((i : ℕ) → i < count → Sound (unitAt s (at + 26 + 26 * i))) → (i : ℕ) → i < suc count → Sound (unitAt s (at + 26 * i))
-    each first rest zero l =
-        let here : at + 26 * 0 ≡ at = omega arith in
-        rw here first
-    each first rest (suc i) l =
-        let there : at + 26 * suc i ≡ at + 26 + 26 * i = omega arith in
-        rw there (rest i (omega arith))
+    each : Sound (unitAt s at) → ((i : ℕ) → i < count → Sound (unitAt s (placeFrom s (unitEnd s at) i))) → (i : ℕ) → i < suc count → Sound (unitAt s (placeFrom s at i))
+    each first rest zero l = first
+    each first rest (suc i) l = rw (← (place-later s at i)) (rest i (omega arith))
 
 -- a block whose units were accepted
-module _ (s : List ℕ) (run limit count : ℕ) {end : ℕ} (e : unitsOf s 10 0 run limit count ≡ is end) where
-  pub unit-in : (i : ℕ) → i < count → Sound (unitIn s i)
-  unit-in = accepted s 10 0 run limit count e .each
+module _ (s : List ℕ) (run limit count : ℕ) {end : ℕ} (long : groupLength ≤ length s) (e : unitsOf s groupLength 0 run limit count ≡ is end) where
+  all : Accepted s groupLength count end
+  all = units-accepted s groupLength 0 run limit count long e
 
-  pub block-end : end ≡ 10 + 26 * count
-  block-end = accepted s 10 0 run limit count e .ends
+  pub unit-in : (i : ℕ) → i < count → Sound (unitIn s i)
+  unit-in = all .each
+
+  pub block-end : end ≡ unitPlace s count
+  block-end = all .ends
+
+  -- each unit lies whole in the block
+  pub unit-whole : (i : ℕ) → i < count → unitPlace s i + unitLength ≤ length s
+  unit-whole i l = omega (arith, all .within, unit-stride s i)

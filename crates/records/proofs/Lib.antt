@@ -6,3 +6,5 @@ pub mod Turns
 pub mod Accepted
 pub mod Unique
 pub mod Read
+pub mod Tiled
+pub mod Places

@@ -4,7 +4,7 @@ use mathlib.Core.Path.{_≡_, sym, ap, _∙_}
 use mathlib.Core.List.{List}
 use Rattle.terms.specs.Refusals.{answer}
 use Rattle.terms.specs.declared.refusal.Answer.{Answer}
-use Rattle.terms.proofs.Same.{same-refusal, same-answer}
+use Rattle.terms.proofs.Same.{refusal-same, answer-same}
 use Rattle.records.specs.declared.key.Last.{Last}
 use Rattle.records.specs.declared.day.DayRecord.{DayRecord}
 use Rattle.records.specs.declared.day.DayAnswer.{DayAnswer}
@@ -18,45 +18,45 @@ use Rattle.records.specs.declared.units.UnitAnswer.the-variants as U
 use Rattle.records.specs.Answers.{dayReply, groupReply, endReply, unitReply}
 use Rattle.records.specs.Reading.{headOf, dayOf, groupOf, endOf, unitOf, unitsOf}
 
-pub same-day : (a b : DayAnswer) → dayReply a ≡ dayReply b → a ≡ b
-same-day (D.Is x) (D.Is y) e = ap D.Is (cc)
-same-day (D.Is x) (D.Refused q) e = cc
-same-day (D.Refused r) (D.Is y) e = cc
-same-day (D.Refused r) (D.Refused q) e = ap D.Refused (same-refusal r q e)
+pub day-answer-same : (a b : DayAnswer) → dayReply a ≡ dayReply b → a ≡ b
+day-answer-same (D.Is x) (D.Is y) e = ap D.Is (cc)
+day-answer-same (D.Is x) (D.Refused q) e = cc
+day-answer-same (D.Refused r) (D.Is y) e = cc
+day-answer-same (D.Refused r) (D.Refused q) e = ap D.Refused (refusal-same r q e)
 
-pub same-group : (a b : GroupAnswer) → groupReply a ≡ groupReply b → a ≡ b
-same-group (G.Is x) (G.Is y) e = ap G.Is (cc)
-same-group (G.Is x) (G.Refused q) e = cc
-same-group (G.Refused r) (G.Is y) e = cc
-same-group (G.Refused r) (G.Refused q) e = ap G.Refused (same-refusal r q e)
+pub group-answer-same : (a b : GroupAnswer) → groupReply a ≡ groupReply b → a ≡ b
+group-answer-same (G.Is x) (G.Is y) e = ap G.Is (cc)
+group-answer-same (G.Is x) (G.Refused q) e = cc
+group-answer-same (G.Refused r) (G.Is y) e = cc
+group-answer-same (G.Refused r) (G.Refused q) e = ap G.Refused (refusal-same r q e)
 
-pub same-end : (a b : EndAnswer) → endReply a ≡ endReply b → a ≡ b
-same-end (E.Is x) (E.Is y) e = ap E.Is (cc)
-same-end (E.Is x) (E.Refused q) e = cc
-same-end (E.Refused r) (E.Is y) e = cc
-same-end (E.Refused r) (E.Refused q) e = ap E.Refused (same-refusal r q e)
+pub end-answer-same : (a b : EndAnswer) → endReply a ≡ endReply b → a ≡ b
+end-answer-same (E.Is x) (E.Is y) e = ap E.Is (cc)
+end-answer-same (E.Is x) (E.Refused q) e = cc
+end-answer-same (E.Refused r) (E.Is y) e = cc
+end-answer-same (E.Refused r) (E.Refused q) e = ap E.Refused (refusal-same r q e)
 
-pub same-unit : (a b : UnitAnswer) → unitReply a ≡ unitReply b → a ≡ b
-same-unit (U.Is x) (U.Is y) e = ap U.Is (cc)
-same-unit (U.Is x) (U.Refused q) e = cc
-same-unit (U.Refused r) (U.Is y) e = cc
-same-unit (U.Refused r) (U.Refused q) e = ap U.Refused (same-refusal r q e)
+pub unit-answer-same : (a b : UnitAnswer) → unitReply a ≡ unitReply b → a ≡ b
+unit-answer-same (U.Is x) (U.Is y) e = ap U.Is (cc)
+unit-answer-same (U.Is x) (U.Refused q) e = cc
+unit-answer-same (U.Refused r) (U.Is y) e = cc
+unit-answer-same (U.Refused r) (U.Refused q) e = ap U.Refused (refusal-same r q e)
 
 module _ (s : List ℕ) where
   pub head-unique : (at kind len : ℕ) (a b : Answer) → answer a ≡ headOf s at kind len → answer b ≡ headOf s at kind len → a ≡ b
-  head-unique at kind len a b p q = same-answer a b (p ∙ sym q)
+  head-unique at kind len a b p q = answer-same a b (p ∙ sym q)
 
   pub read-day-unique : (a b : DayAnswer) → dayReply a ≡ dayOf s → dayReply b ≡ dayOf s → a ≡ b
-  read-day-unique a b p q = same-day a b (p ∙ sym q)
+  read-day-unique a b p q = day-answer-same a b (p ∙ sym q)
 
   pub read-group-unique : (day : DayRecord) (last : Last) (a b : GroupAnswer) → groupReply a ≡ groupOf s day last → groupReply b ≡ groupOf s day last → a ≡ b
-  read-group-unique day last a b p q = same-group a b (p ∙ sym q)
+  read-group-unique day last a b p q = group-answer-same a b (p ∙ sym q)
 
   pub read-end-unique : (accepted : ℕ) (a b : EndAnswer) → endReply a ≡ endOf s accepted → endReply b ≡ endOf s accepted → a ≡ b
-  read-end-unique accepted a b p q = same-end a b (p ∙ sym q)
+  read-end-unique accepted a b p q = end-answer-same a b (p ∙ sym q)
 
   pub unit-at-unique : (at floor run limit : ℕ) (a b : UnitAnswer) → unitReply a ≡ unitOf s at floor run limit → unitReply b ≡ unitOf s at floor run limit → a ≡ b
-  unit-at-unique at floor run limit a b p q = same-unit a b (p ∙ sym q)
+  unit-at-unique at floor run limit a b p q = unit-answer-same a b (p ∙ sym q)
 
   pub units-from-unique : (at run limit count : ℕ) (a b : Answer) → answer a ≡ unitsOf s at 0 run limit count → answer b ≡ unitsOf s at 0 run limit count → a ≡ b
-  units-from-unique at run limit count a b p q = same-answer a b (p ∙ sym q)
+  units-from-unique at run limit count a b p q = answer-same a b (p ∙ sym q)

@@ -1,9 +1,8 @@
 -- "Numbers given back": each answer as a reply, and the refusal of an answer that is one.
 use Prim.Native.Nat.{ℕ}
 use Rattle.terms.specs.Reply.{Reply, is}
-use Rattle.terms.specs.Refusals.{refusal}
+use Rattle.terms.specs.Refusals.{refusal, noRefusal}
 use Rattle.terms.specs.declared.refusal.Refusal.{Refusal}
-use Rattle.terms.specs.declared.refusal.Why.the-variants as W
 use Rattle.records.specs.declared.field.ByteAnswer.{ByteAnswer}
 use Rattle.records.specs.declared.field.ByteAnswer.the-variants as B
 use Rattle.records.specs.declared.field.NumberAnswer.{NumberAnswer}
@@ -23,10 +22,6 @@ use Rattle.records.specs.declared.units.UnitAnswer.the-variants as U
 use Rattle.records.specs.declared.end.EndRecord.{EndRecord}
 use Rattle.records.specs.declared.end.EndAnswer.{EndAnswer}
 use Rattle.records.specs.declared.end.EndAnswer.the-variants as E
-
--- what an answer that is none hands out in place of a refusal; no caller asks for it
-abbrev pub noRefusal : Refusal
-noRefusal = record { why = W.Kind; place = 0 }
 
 abbrev pub byteReply : ByteAnswer → Reply ℕ
 byteReply (B.Is b) = is b

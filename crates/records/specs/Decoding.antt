@@ -4,8 +4,10 @@ use mathlib.Core.Bool.{Bool}
 use mathlib.Core.List.{List}
 use lib.IntN.{ℤ}
 use Rattle.numbers.specs.Column.{column}
+use Rattle.numbers.specs.Sum.{bit}
 use Rattle.terms.specs.Quantities.{implicit, consideredOf}
 use Rattle.records.specs.declared.unit.UnitRecord.{UnitRecord}
+use Rattle.records.specs.Layouts.{marginsOf}
 use Rattle.records.specs.Reading.{unitIn}
 
 -- the considered nomination of a unit, and whether it is implicit
@@ -22,8 +24,9 @@ numbersIn s count = column count λ i. unitIn s i .number
 abbrev pub classesIn : List ℕ → ℕ → List ℕ
 classesIn s count = column count λ i. unitIn s i .class
 
-abbrev pub implicitsIn : List ℕ → ℕ → List Bool
-implicitsIn s count = column count λ i. unitImplicit (unitIn s i)
+-- 1 where the nomination is implicit, and else 0
+abbrev pub takenIn : List ℕ → ℕ → List ℕ
+takenIn s count = column count λ i. bit (unitImplicit (unitIn s i))
 
 abbrev pub n0In : List ℕ → ℕ → List ℤ
 n0In s count = column count λ i. unitN0 (unitIn s i)
@@ -32,7 +35,7 @@ abbrev pub pcIn : List ℕ → ℕ → List ℤ
 pcIn s count = column count λ i. unitIn s i .pc .0
 
 abbrev pub stepDownIn : List ℕ → ℕ → List ℤ
-stepDownIn s count = column count λ i. unitIn s i .«step_down»
+stepDownIn s count = column count λ i. marginsOf (unitIn s i) .«step_down»
 
 abbrev pub stepUpIn : List ℕ → ℕ → List ℤ
-stepUpIn s count = column count λ i. unitIn s i .«step_up»
+stepUpIn s count = column count λ i. marginsOf (unitIn s i) .«step_up»

@@ -1,11 +1,11 @@
 -- "House records": one byte of kind, then the fields, each at its place; numbers have the most significant byte first, signed ones are two's complement.
 use Prim.Native.Nat.{ℕ, _+_}
-use mathlib.Core.Path.{_≡_, refl}
 use mathlib.Core.Bool.{Bool, true, _&&_}
 use mathlib.Core.List.{List, [], _∷_, _++_}
 use lib.Dec.{eqb}
 use lib.IntN.{ℤ}
 use Rattle.numbers.specs.Bytes.{byteAt, be16, be32, bytes16, bytes32, signed32, bits32}
+use Rattle.terms.specs.declared.quantity.Margins.{Margins}
 use Rattle.records.specs.declared.day.DayRecord.{DayRecord}
 use Rattle.records.specs.declared.group.GroupRecord.{GroupRecord}
 use Rattle.records.specs.declared.unit.UnitRecord.{UnitRecord}
@@ -226,6 +226,14 @@ unitAt s at =
 unfoldable pub unitBytes : UnitRecord → List ℕ
 unitBytes u = behind (unitKind ∷ []) (unitTable u)
 
+-- how many bytes a unit's record has
+abbrev pub lengthOf : UnitRecord → ℕ
+lengthOf u = unitLength
+
+-- the margins that the steps work with
+abbrev pub marginsOf : UnitRecord → Margins
+marginsOf u = record { «step_down» = u .«step_down»; «step_up» = u .«step_up» }
+
 -- ---- 0Fh end, 5 bytes
 abbrev pub endKind : ℕ
 endKind = 15
@@ -362,22 +370,3 @@ unitResultAt s at =
 
 unfoldable pub unitResultBytes : UnitResult → List ℕ
 unitResultBytes u = behind (unitResultKind ∷ []) (unitResultTable u)
-
--- ---- each table fills its record, from the byte after the kind to the last
-pub day-tiled : (d : DayRecord) → tiles 1 (dayTable d) dayLength ≡ true
-day-tiled d = refl
-
-pub group-tiled : (g : GroupRecord) → tiles 1 (groupTable g) groupLength ≡ true
-group-tiled g = refl
-
-pub unit-tiled : (u : UnitRecord) → tiles 1 (unitTable u) unitLength ≡ true
-unit-tiled u = refl
-
-pub end-tiled : (e : EndRecord) → tiles 1 (endTable e) endLength ≡ true
-end-tiled e = refl
-
-pub group-result-tiled : (g : GroupResult) → tiles 1 (groupResultTable g) groupResultLength ≡ true
-group-result-tiled g = refl
-
-pub unit-result-tiled : (u : UnitResult) → tiles 1 (unitResultTable u) unitResultLength ≡ true
-unit-result-tiled u = refl

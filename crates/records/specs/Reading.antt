@@ -1,5 +1,5 @@
 -- "Numbers given back", for records that are read. Each record: 1 if empty, 2, 1, then fields; the first refused field ends the reading.
-use Prim.Native.Nat.{ℕ, zero, suc, _+_, _-_, _*_}
+use Prim.Native.Nat.{ℕ, zero, suc, _+_, _-_}
 use mathlib.Core.Bool.{Bool, true, _&&_, _||_}
 use mathlib.Core.List.{List}
 use lib.Dec.{eqb, leb, ltb}
@@ -9,7 +9,8 @@ use Rattle.numbers.specs.Bytes.{byteAt}
 use Rattle.numbers.specs.Choice.{pick, eqZ}
 use Rattle.terms.specs.Reply.{Reply, is, need, next}
 use Rattle.terms.specs.Refusals.{check, passed}
-use Rattle.terms.specs.Checks.{isFlag, amountChecks}
+use Rattle.terms.specs.Quantities.{knownClass}
+use Rattle.terms.specs.Checks.{isFlag, unitCount, amountChecks}
 use Rattle.terms.specs.declared.refusal.Fault.{Fault}
 use Rattle.terms.specs.declared.refusal.Fault.the-variants as F
 use Rattle.terms.specs.declared.refusal.Checked.{Checked}
@@ -23,7 +24,7 @@ use Rattle.records.specs.declared.key.Last.{Last}
 use Rattle.records.specs.declared.key.Last.the-variants.{Nothing, Block}
 use Rattle.records.specs.Layouts.{dayKind, dayLength, dayQuarters, dayAt}
 use Rattle.records.specs.Layouts.{groupKind, groupLength, groupBrp, groupQuarter, groupCount, groupMade, groupAt}
-use Rattle.records.specs.Layouts.{unitKind, unitLength, unitAt}
+use Rattle.records.specs.Layouts.{unitKind, unitLength, unitAt, lengthOf, marginsOf}
 use Rattle.records.specs.Layouts.{unitNumber, unitClass, unitCoincide, unitNominated, unitN, unitPc, unitStepDown, unitStepUp, unitMade}
 use Rattle.records.specs.Layouts.{endKind, endLength, endGroups, endAt}
 
@@ -51,10 +52,6 @@ unfoldable pub dayOf : List ℕ → Reply DayRecord
 dayOf s = next (headOf s 0 dayKind dayLength) λ _. dayFieldsOf s
 
 -- ---- the group record
--- a group has 1 to 64 units
-abbrev pub unitCount : ℕ → Bool
-unitCount count = leb 1 count && leb count 64
-
 -- blocks rise strictly by (BRP, zone, quarter)
 abbrev pub below : Key → Key → Bool
 below a b =
@@ -90,6 +87,27 @@ unfoldable pub endOf : List ℕ → ℕ → Reply EndRecord
 endOf s groups = next (headOf s 0 endKind endLength) λ _. endFieldsOf s groups
 
 -- ---- the unit records of a block
+-- the head of the unit record that is to begin at a place
+abbrev pub unitHeadOf : List ℕ → ℕ → Reply ℕ
+unitHeadOf s at = headOf s at unitKind unitLength
+
+-- where the unit record that begins at a place ends
+abbrev pub unitEnd : List ℕ → ℕ → ℕ
+unitEnd s at = at + lengthOf (unitAt s at)
+
+-- the place of the unit of index i, the first of which begins at a place: each begins where the one before ends
+unfoldable pub placeFrom : List ℕ → ℕ → ℕ → ℕ
+placeFrom s at zero = at
+placeFrom s at (suc i) = unitEnd s (placeFrom s at i)
+
+-- in a block the first begins behind the group record
+abbrev pub unitPlace : List ℕ → ℕ → ℕ
+unitPlace s i = placeFrom s groupLength i
+
+-- the unit of index i in a block
+abbrev pub unitIn : List ℕ → ℕ → UnitRecord
+unitIn s i = unitAt s (unitPlace s i)
+
 -- the checks that come after others, where those pass
 unfoldable pub also : Checked → Checked → Checked
 also Fine rest = rest
@@ -99,7 +117,7 @@ also (Faulty fault) rest = Faulty fault
 unfoldable pub markFaults : UnitRecord → ℕ → Checked
 markFaults u floor =
     check (leb floor (u .number)) F.Number
-    (check (isFlag (u .class)) F.Class
+    (check (knownClass (u .class)) F.Class
     (check (isFlag (u .coincide)) F.Coincide
     (check (isFlag (u .nominated)) F.Nominated
     (check (eqb (u .nominated) 1 || eqZ (u .n .0) (pos 0)) F.NotNominated
@@ -107,7 +125,7 @@ markFaults u floor =
 
 -- 6, 7, 8, 9: what a unit's values can have wrong
 unfoldable pub valueFaults : UnitRecord → ℕ → Checked
-valueFaults u floor = also (markFaults u floor) (amountChecks (u .n .0) (u .pc .0) (u .«step_down») (u .«step_up»))
+valueFaults u floor = also (markFaults u floor) (amountChecks (u .n .0) (u .pc .0) (marginsOf u))
 
 -- the same, and then 11
 unfoldable pub unitFaults : UnitRecord → ℕ → ℕ → ℕ → Checked
@@ -132,14 +150,10 @@ unitFieldsOf s at floor run limit =
     passed (λ fault. at + faultPlace fault) (unitFaults (unitAt s at) floor run limit) (is (unitAt s at))
 
 unfoldable pub unitOf : List ℕ → ℕ → ℕ → ℕ → ℕ → Reply UnitRecord
-unitOf s at floor run limit = next (headOf s at unitKind unitLength) λ _. unitFieldsOf s at floor run limit
+unitOf s at floor run limit = next (unitHeadOf s at) λ _. unitFieldsOf s at floor run limit
 
 -- so many units from a place on; where they end
 unfoldable pub unitsOf : List ℕ → ℕ → ℕ → ℕ → ℕ → ℕ → Reply ℕ
 unitsOf s at floor run limit zero = is at
 unitsOf s at floor run limit (suc left) =
-    next (unitOf s at floor run limit) λ u. unitsOf s (at + unitLength) (u .number + 1) run limit left
-
--- the unit of index i in a block
-abbrev pub unitIn : List ℕ → ℕ → UnitRecord
-unitIn s i = unitAt s (groupLength + unitLength * i)
+    next (unitOf s at floor run limit) λ u. unitsOf s (unitEnd s at) (u .number + 1) run limit left

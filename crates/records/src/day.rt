@@ -7,13 +7,13 @@ ghost use Rattle.records.specs.Answers.{byteReply, dayReply, dayRefusal}
 ghost use Rattle.records.specs.Layouts.{dayLength, dayQuarters, dayAt};
 ghost use Rattle.records.specs.Reading.{permitted, dayFieldsOf, dayOf};
 use crate::field::ByteAnswer;
-use crate::field::no_refusal;
 use crate::head::head;
 use numbers::bytes::u16_at;
 use numbers::bytes::u32_at;
 use terms::refusal::Answer;
 use terms::refusal::Refusal;
 use terms::refusal::Why;
+use terms::refusal::no_refusal;
 
 pub struct DayRecord {
     pub day: u16,

@@ -8,12 +8,12 @@ ghost use Rattle.records.specs.Answers.{numberReply, endReply, endRefusa
 ghost use Rattle.records.specs.Layouts.{endLength, endGroups, endAt};
 ghost use Rattle.records.specs.Reading.{endFieldsOf, endOf};
 use crate::field::NumberAnswer;
-use crate::field::no_refusal;
 use crate::head::head;
 use numbers::bytes::u32_at;
 use terms::refusal::Answer;
 use terms::refusal::Refusal;
 use terms::refusal::Why;
+use terms::refusal::no_refusal;
 
 pub struct EndRecord {
     pub groups: u32,

@@ -11,6 +11,7 @@ ghost use Rattle.records.specs.Reading.{markFaults, valueFaults, unitFau
 use crate::age::is_aged;
 use crate::unit::UnitRecord;
 use terms::check::amounts;
+use terms::check::class;
 use terms::check::flag;
 use terms::quantity::Nomination;
 use terms::refusal::Checked;
@@ -36,7 +37,7 @@ fn marks(u: UnitRecord, floor: u32) -> Checked
     if (u.number as u32) < floor {
         return Checked::Faulty(Fault::Number);
     }
-    let Checked::Fine = flag(u.class, Fault::Class) else {
+    let Checked::Fine = class(u.class) else {
         return Checked::Faulty(Fault::Class);
     };
     let Checked::Fine = flag(u.coincide, Fault::Coincide) else {
@@ -56,7 +57,7 @@ pub fn faults(u: UnitRecord, floor: u32) -> Checked
     let Checked::Fine = m else {
         return m;
     };
-    amounts(u.n.0, u.pc.0, u.step_down, u.step_up)
+    amounts(u.n, u.pc, u.margins())
 }
 
 // The same, and then the margins' age.

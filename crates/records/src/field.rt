@@ -1,18 +1,8 @@
 // A field's answer: its value, or a refusal.
 ghost use mathlib.Core.Path.{_≡_};
-ghost use Rattle.records.specs.Answers.{noRefusal, byteRefusal, numberRefusal};
+ghost use Rattle.records.specs.Answers.{byteRefusal, numberRefusal};
 use terms::refusal::Refusal;
-use terms::refusal::Why;
-
-// What an answer that is none hands out in place of a refusal.
-pub fn no_refusal() -> Refusal
-    ensures { λ r. ⌜ r ≡ noRefusal ⌝ }
-{
-    Refusal {
-        why: Why::Kind,
-        place: 0,
-    }
-}
+use terms::refusal::no_refusal;
 
 pub enum ByteAnswer {
     Is(u8),

@@ -4,23 +4,25 @@ ghost use Prim.Native.Nat.{_≤_};
 ghost use lib.Dec.{ltb};
 ghost use lib.ListN.{length};
 ghost use Rattle.terms.specs.Reply.{is, need};
+ghost use Rattle.terms.specs.Checks.{unitCount};
 ghost use Rattle.records.specs.Answers.{byteReply, numberReply, keyReply, groupReply, groupRefusal};
 ghost use Rattle.records.specs.Layouts.{groupLength, groupBrp, groupQuarter, groupCount, groupMade, groupAt};
-ghost use Rattle.records.specs.Reading.{aged, unitCount, follows, keyOf, groupFieldsOf, groupOf};
+ghost use Rattle.records.specs.Reading.{aged, follows, keyOf, groupFieldsOf, groupOf};
 use crate::age::is_aged;
 use crate::day::DayRecord;
 use crate::field::ByteAnswer;
 use crate::field::NumberAnswer;
-use crate::field::no_refusal;
 use crate::head::head;
 use crate::key::Key;
 use crate::key::KeyAnswer;
 use crate::key::Last;
 use numbers::bytes::u16_at;
 use numbers::bytes::u32_at;
+use terms::check::is_count;
 use terms::refusal::Answer;
 use terms::refusal::Refusal;
 use terms::refusal::Why;
+use terms::refusal::no_refusal;
 
 pub struct GroupRecord {
     pub brp: u16,
@@ -46,7 +48,7 @@ impl GroupRecord {
     pub const MADE: usize = 6;
 
     // A group has 1 to UNITS units.
-    pub const UNITS: u8 = 64;
+    pub const UNITS: usize = terms::check::UNITS;
 
     pub fn new(brp: u16, zone: u8, quarter: u8, count: u8, made: u32) -> GroupRecord
         ensures { λ r. ⌜ r ≡ record { brp = brp; zone = zone; quarter = quarter; count = count; made = made } ⌝ }
@@ -64,10 +66,7 @@ impl GroupRecord {
     pub fn permits(count: usize) -> bool
         ensures { λ r. ⌜ r ≡ unitCount count ⌝ }
     {
-        if count == 0 {
-            return false;
-        }
-        count <= (GroupRecord::UNITS as usize)
+        is_count(count)
     }
 }
 

@@ -2,8 +2,8 @@
 ghost use mathlib.Core.Path.{_≡_};
 ghost use Rattle.records.specs.Answers.{keyRefusal};
 ghost use Rattle.records.specs.Reading.{below, follows};
-use crate::field::no_refusal;
 use terms::refusal::Refusal;
+use terms::refusal::no_refusal;
 
 // A BRP, a zone and a quarter.
 pub struct Key {

@@ -2,11 +2,12 @@
 ghost use mathlib.Core.Path.{_≡_};
 ghost use Prim.Native.Nat.{_+_, _≤_};
 ghost use lib.ListN.{length};
-ghost use Rattle.records.specs.Layouts.{unitLength, unitAt};
-ghost use Rattle.records.specs.Reading.{faultPlace};
+ghost use Rattle.records.specs.Layouts.{unitLength, unitAt, lengthOf, marginsOf};
+ghost use Rattle.records.specs.Reading.{faultPlace, unitEnd};
 use numbers::bytes::i32_at;
 use numbers::bytes::u16_at;
 use numbers::bytes::u32_at;
+use terms::quantity::Margins;
 use terms::quantity::Nomination;
 use terms::quantity::Position;
 use terms::refusal::Fault;
@@ -47,7 +48,7 @@ impl UnitRecord {
     pub const MADE: usize = 22;
 
     // N, PC and the margins lie from -LIMIT to LIMIT.
-    pub const LIMIT: i32 = terms::check::LIMIT;
+    pub const LIMIT: i32 = Nomination::LIMIT;
 
     pub fn new(
         number: u16,
@@ -72,6 +73,23 @@ impl UnitRecord {
             step_down,
             step_up,
             made,
+        }
+    }
+
+    // How many bytes its record has.
+    pub fn length(self) -> usize
+        ensures { λ r. ⌜ r ≡ lengthOf self ⌝ }
+    {
+        UnitRecord::LEN
+    }
+
+    // The margins that the steps work with.
+    pub fn margins(self) -> Margins
+        ensures { λ r. ⌜ r ≡ marginsOf self ⌝ }
+    {
+        Margins {
+            step_down: self.step_down,
+            step_up: self.step_up,
         }
     }
 
@@ -120,4 +138,12 @@ pub fn unit_fields(s: &[u8], at: usize) -> UnitRecord
         step_up,
         made,
     )
+}
+
+// Where the unit record that begins at a place, and is there whole, ends.
+pub fn unit_end(s: &[u8], at: usize) -> usize
+    requires { ⌜ at + unitLength ≤ length (now s) ⌝ }
+    ensures { λ r. ⌜ r ≡ unitEnd (now (s .entry)) at ⌝ }
+{
+    at + UnitRecord::LEN
 }

@@ -8,15 +8,15 @@ ghost use Rattle.numbers.specs.Bytes.{byteAt};
 ghost use Rattle.terms.specs.Refusals.{answer};
 ghost use Rattle.records.specs.Answers.{unitReply, unitRefusal};
 ghost use Rattle.records.specs.Layouts.{unitKind, unitLength};
-ghost use Rattle.records.specs.Reading.{unitFieldsOf, unitOf, unitsOf};
+ghost use Rattle.records.specs.Reading.{unitHeadOf, unitFieldsOf, unitOf, unitsOf};
 use crate::faults::unit_faults;
-use crate::field::no_refusal;
 use crate::head::head;
 use crate::unit::UnitRecord;
 use crate::unit::unit_fields;
 use terms::refusal::Answer;
 use terms::refusal::Checked;
 use terms::refusal::Refusal;
+use terms::refusal::no_refusal;
 
 pub enum UnitAnswer {
     Is(UnitRecord),
@@ -48,6 +48,16 @@ fn is_whole(s: &[u8], at: usize) -> bool
     s[at] == UnitRecord::KIND
 }
 
+// Where the unit record that is to begin at a place ends: 1 if nothing is there, 2, 1. Whether it lies there whole is one look, and what is wrong is asked only where it does not.
+pub fn unit_head(s: &[u8], at: usize) -> Answer
+    ensures { λ r. ⌜ answer r ≡ unitHeadOf (now (s .entry)) at ⌝ }
+{
+    if is_whole(s, at) {
+        return Answer::Is(at + UnitRecord::LEN);
+    }
+    head(s, at, UnitRecord::KIND, UnitRecord::LEN)
+}
+
 // A unit record that is there whole, judged.
 fn unit_judged(s: &[u8], at: usize, floor: u32, run: u32, limit: u16) -> UnitAnswer
     requires { ⌜ at + unitLength ≤ length (now s) ⌝ }
@@ -68,11 +78,11 @@ fn unit_judged(s: &[u8], at: usize, floor: u32, run: u32, limit: u16) -> UnitAns
 pub fn unit_at(s: &[u8], at: usize, floor: u32, run: u32, limit: u16) -> UnitAnswer
     ensures { λ r. ⌜ unitReply r ≡ unitOf (now (s .entry)) at floor run limit ⌝ }
 {
-    if is_whole(s, at) {
-        return unit_judged(s, at, floor, run, limit);
-    }
-    let h = head(s, at, UnitRecord::KIND, UnitRecord::LEN);
-    UnitAnswer::Refused(h.refusal())
+    let h = unit_head(s, at);
+    let Answer::Is(_) = h else {
+        return UnitAnswer::Refused(h.refusal());
+    };
+    unit_judged(s, at, floor, run, limit)
 }
 
 // So many units from a place on: the first refusal, or where they end.
@@ -88,7 +98,7 @@ pub fn units_from(s: &[u8], at: usize, count: usize, run: u32, limit: u16) -> An
             return Answer::Refused(r.refusal());
         };
         floor = (u.number as u32) + 1;
-        here += UnitRecord::LEN;
+        here += u.length();
         i += 1;
     }
     Answer::Is(here)

@@ -1,5 +1,7 @@
 -- Laws of replies and refusals.
 pub mod Replies
 pub mod Passing
+pub mod FirstRefused
 pub mod Scan
 pub mod Same
+pub mod Considered

@@ -3,10 +3,11 @@ use Prim.Native.Nat.{ℕ}
 use mathlib.Core.Path.{_≡_, refl, sym, _∙_}
 use mathlib.Core.Bool.{Bool, true, false}
 use native.Mathlib.Omega.{arith}
-use lib.IntN.{ℤ}
+use lib.IntN.{ℤ, pos, negℤ}
+use lib.Signed.{ltZ, leZ}
 use mir.Syntax.{w32}
 use mir.Val.{SFits, toZ, ofZ}
-use mir.Facts.{toZ-ofZ}
+use Rattle.numbers.proofs.Integers.{zarith, plain-lt}
 use Rattle.terms.specs.Refusals.{check}
 use Rattle.terms.specs.Checks.{inRange}
 use Rattle.terms.specs.declared.refusal.Fault.{Fault}
@@ -28,10 +29,46 @@ unfolding check
 fails true f g e = apart e
 fails false f g e = refl
 
--- of a quantity, which the machine reads back from its bits
-module _ {z : ℤ} {r : Checked} (fits : SFits w32 z) (f : Fault) (e : r ≡ check (inRange (toZ w32 (ofZ w32 z))) f Fine) where
+-- a quantity that the machine reads back from its bits, against the limits: below them, above them, and neither
+module _ {z : ℤ} (fits : SFits w32 z) where
+  low : SFits w32 (negℤ (pos 1000000))
+  low = omega zarith
+
+  high : SFits w32 (pos 1000000)
+  high = omega zarith
+
+  abbrev under : (t : Bool) → Type 0
+  under t = ltZ (toZ w32 (ofZ w32 z)) (toZ w32 (ofZ w32 (negℤ (pos 1000000)))) ≡ t
+
+  abbrev over : (t : Bool) → Type 0
+  over t = ltZ (toZ w32 (ofZ w32 (pos 1000000))) (toZ w32 (ofZ w32 z)) ≡ t
+
+  pub range-under : under true → inRange z ≡ false
+  range-under e =
+      let t : ltZ z (negℤ (pos 1000000)) ≡ true = plain-lt fits low e in
+      let l : leZ (negℤ (pos 1000000)) z ≡ false = omega zarith in
+      simp l
+
+  pub range-over : under false → over true → inRange z ≡ false
+  range-over e f =
+      let t : ltZ z (negℤ (pos 1000000)) ≡ false = plain-lt fits low e in
+      let u : ltZ (pos 1000000) z ≡ true = plain-lt high fits f in
+      let k : leZ (negℤ (pos 1000000)) z ≡ true = omega zarith in
+      let l : leZ z (pos 1000000) ≡ false = omega zarith in
+      simp (k, l)
+
+  pub range-in : under false → over false → inRange z ≡ true
+  range-in e f =
+      let t : ltZ z (negℤ (pos 1000000)) ≡ false = plain-lt fits low e in
+      let u : ltZ (pos 1000000) z ≡ false = plain-lt high fits f in
+      let k : leZ (negℤ (pos 1000000)) z ≡ true = omega zarith in
+      let l : leZ z (pos 1000000) ≡ true = omega zarith in
+      simp (k, l)
+
+-- of a quantity that was checked as the machine reads it back from its bits
+module _ {z : ℤ} {r : Checked} (back : toZ w32 (ofZ w32 z) ≡ z) (f : Fault) (e : r ≡ check (inRange (toZ w32 (ofZ w32 z))) f Fine) where
   plain : r ≡ check (inRange z) f Fine
-  plain = rw (toZ-ofZ fits) at e
+  plain = rw back at e
 
   pub in-range : r ≡ Fine → inRange z ≡ true
   in-range h = passes (inRange z) f Fine (sym plain ∙ h) .0

@@ -12,8 +12,8 @@ use Rattle.terms.specs.declared.refusal.Answer.{Answer}
 use Rattle.terms.specs.declared.refusal.Answer.the-variants as A
 
 -- the reasons by their numbers; there is no number 0
-reasons : List Why
-reasons =
+whys : List Why
+whys =
     W.CutShort
     ∷ W.CutShort
     ∷ W.Kind
@@ -32,11 +32,11 @@ reasons =
     ∷ W.Columns
     ∷ []
 
-reasonOf : ℕ → Why
-reasonOf k = getD reasons k W.CutShort
+whyBy : ℕ → Why
+whyBy k = getD whys k W.CutShort
 
-back : (w : Why) → reasonOf (numberOf w) ≡ w
-unfolding reasonOf reasons
+back : (w : Why) → whyBy (numberOf w) ≡ w
+unfolding whyBy whys
 back W.CutShort = refl
 back W.Kind = refl
 back W.Quarters = refl
@@ -53,18 +53,18 @@ back W.BlockOrder = refl
 back W.EndCount = refl
 back W.Columns = refl
 
-pub same-why : (v w : Why) → numberOf v ≡ numberOf w → v ≡ w
-same-why v w e = sym (back v) ∙ ap reasonOf e ∙ back w
+pub why-same : (v w : Why) → numberOf v ≡ numberOf w → v ≡ w
+why-same v w e = sym (back v) ∙ ap whyBy e ∙ back w
 
-pub same-refusal : {A : Type 0} (r q : Refusal) → _≡_ {A = Reply A} (refusal r) (refusal q) → r ≡ q
-same-refusal r q e =
+pub refusal-same : {A : Type 0} (r q : Refusal) → _≡_ {A = Reply A} (refusal r) (refusal q) → r ≡ q
+refusal-same r q e =
     let n : numberOf (r .why) ≡ numberOf (q .why) = cc in
     let p : r .place ≡ q .place = cc in
-    let w : r .why ≡ q .why = same-why (r .why) (q .why) n in
+    let w : r .why ≡ q .why = why-same (r .why) (q .why) n in
     ap {B = Refusal} (λ (v : Why). record { why = v; place = r .place }) w ∙ ap {B = Refusal} (λ (k : ℕ). record { why = q .why; place = k }) p
 
-pub same-answer : (a b : Answer) → answer a ≡ answer b → a ≡ b
-same-answer (A.Is m) (A.Is n) e = ap A.Is (cc)
-same-answer (A.Is m) (A.Refused q) e = cc
-same-answer (A.Refused r) (A.Is n) e = cc
-same-answer (A.Refused r) (A.Refused q) e = ap A.Refused (same-refusal r q e)
+pub answer-same : (a b : Answer) → answer a ≡ answer b → a ≡ b
+answer-same (A.Is m) (A.Is n) e = ap A.Is (cc)
+answer-same (A.Is m) (A.Refused q) e = cc
+answer-same (A.Refused r) (A.Is n) e = cc
+answer-same (A.Refused r) (A.Refused q) e = ap A.Refused (refusal-same r q e)

@@ -5,6 +5,7 @@ use lib.Dec.{leb}
 use lib.IntN.{ℤ, pos, negℤ}
 use lib.Signed.{leZ}
 use Rattle.terms.specs.Refusals.{check}
+use Rattle.terms.specs.declared.quantity.Margins.{Margins}
 use Rattle.terms.specs.declared.refusal.Fault.the-variants as F
 use Rattle.terms.specs.declared.refusal.Checked.{Checked}
 use Rattle.terms.specs.declared.refusal.Checked.the-variants.{Fine}
@@ -17,12 +18,23 @@ isFlag b = leb b 1
 abbrev pub inRange : ℤ → Bool
 inRange z = leZ (negℤ (pos 1000000)) z && leZ z (pos 1000000)
 
--- 8 for each quantity in turn, then 9
-unfoldable pub amountChecks : ℤ → ℤ → ℤ → ℤ → Checked
-amountChecks n pc stepDown stepUp =
+-- a group has 1 to 64 units
+abbrev pub mostUnits : ℕ
+mostUnits = 64
+
+abbrev pub unitCount : ℕ → Bool
+unitCount count = leb 1 count && leb count mostUnits
+
+-- a unit's quantities: 8 for each in turn, then 9
+unfoldable pub marginChecks : Margins → Checked
+marginChecks m =
+    check (inRange (m .«step_down»)) F.StepDown
+    (check (inRange (m .«step_up»)) F.StepUp
+    (check (leZ (m .«step_down») (m .«step_up»)) F.Crossed
+    Fine))
+
+unfoldable pub amountChecks : ℤ → ℤ → Margins → Checked
+amountChecks n pc m =
     check (inRange n) F.N
     (check (inRange pc) F.Pc
-    (check (inRange stepDown) F.StepDown
-    (check (inRange stepUp) F.StepUp
-    (check (leZ stepDown stepUp) F.Crossed
-    Fine))))
+    (marginChecks m))

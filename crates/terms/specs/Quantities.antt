@@ -1,7 +1,7 @@
 -- "Quantities and signs", and the words of "The steps": classes, directions, the considered nomination.
 use Prim.Native.Nat.{ℕ}
 use mathlib.Core.Bool.{Bool, not, _&&_}
-use lib.Dec.{eqb}
+use lib.Dec.{eqb, leb}
 use lib.IntN.{ℤ, pos, negℤ, natAbs}
 use lib.Signed.{ltZ}
 use Rattle.numbers.specs.Choice.{pick}
@@ -15,6 +15,10 @@ abbrev pub standing : Standing → ℕ → Bool
 standing NotEnabled class = eqb class 0
 standing Enabled class = eqb class 1
 
+-- a unit is of class 0 or 1
+abbrev pub knownClass : ℕ → Bool
+knownClass class = leb class 1
+
 -- the size of a nomination in a direction: an injection is above zero, a withdrawal below
 abbrev pub sizeIn : Direction → ℤ → ℕ
 sizeIn Injections n = pick (ltZ (pos 0) n) (natAbs n) 0
@@ -24,6 +28,6 @@ sizeIn Withdrawals n = pick (ltZ n (pos 0)) (natAbs n) 0
 abbrev pub implicit : ℕ → ℕ → Bool
 implicit nominated coincide = not (eqb nominated 1) && eqb coincide 1
 
--- the considered nomination n0: N where nominated, otherwise -PC where BRP and BSP coincide, else 0
+-- the considered nomination n0: N where nominated, otherwise -PC where the nomination is implicit, else 0
 abbrev pub consideredOf : ℕ → ℕ → ℤ → ℤ → ℤ
-consideredOf nominated coincide n pc = pick (eqb nominated 1) n (pick (eqb coincide 1) (negℤ pc) (pos 0))
+consideredOf nominated coincide n pc = pick (eqb nominated 1) n (pick (implicit nominated coincide) (negℤ pc) (pos 0))

@@ -33,13 +33,18 @@ numberOf W.Columns = 15
 abbrev pub refusal : {A : Type 0} → Refusal → Reply A
 refusal r = refused (numberOf (r .why)) (r .place)
 
--- an answer as a reply, and the refusal of an answer that is one
+-- an answer as a reply
 abbrev pub answer : Answer → Reply ℕ
 answer (A.Is n) = is n
 answer (A.Refused r) = refusal r
 
+-- what an answer that is none hands out in place of a refusal; no caller asks for it
+abbrev pub noRefusal : Refusal
+noRefusal = record { why = W.Kind; place = 0 }
+
+-- the refusal of an answer that is one
 abbrev pub refusalOf : Answer → Refusal
-refusalOf (A.Is n) = record { why = W.Kind; place = 0 }
+refusalOf (A.Is n) = noRefusal
 refusalOf (A.Refused r) = r
 
 -- why a fault of a unit is refused
@@ -67,6 +72,6 @@ passed place Fine rest = rest
 passed place (Faulty fault) rest = refused (numberOf (whyOf fault)) (place fault)
 
 -- units given as columns, from the one of index i on: the first fault is refused at its unit's index, and else the index after the last is told, which from 0 on is their count
-unfoldable pub unitsFrom : (ℕ → Checked) → ℕ → ℕ → Reply ℕ
-unitsFrom checks i zero = is i
-unitsFrom checks i (suc left) = passed (λ _. i) (checks i) (unitsFrom checks (suc i) left)
+unfoldable pub firstFault : (ℕ → Checked) → ℕ → ℕ → Reply ℕ
+firstFault checks i zero = is i
+firstFault checks i (suc left) = passed (λ _. i) (checks i) (firstFault checks (suc i) left)

@@ -1,27 +1,65 @@
 // The checks of a unit's fields, shared by every way in that takes a unit.
 ghost use mathlib.Core.Path.{_≡_};
 ghost use lib.Signed.{leZ};
+ghost use Rattle.terms.specs.Quantities.{knownClass};
 ghost use Rattle.terms.specs.Refusals.{check};
-ghost use Rattle.terms.specs.Checks.{inRange, isFlag, amountChecks};
+ghost use Rattle.terms.specs.Checks.{inRange, isFlag, unitCount, marginChecks, amountChecks};
 ghost use Rattle.terms.specs.declared.refusal.Checked.the-variants.{Fine};
-ghost use Rattle.terms.specs.declared.refusal.Fault.the-variants.{Crossed};
+ghost use Rattle.terms.specs.declared.refusal.Fault.the-variants.{Class, Crossed, Pc};
+use crate::quantity::Margins;
+use crate::quantity::Nomination;
+use crate::quantity::Position;
+use crate::quantity::is_class;
 use crate::refusal::Checked;
 use crate::refusal::Fault;
 
-// Each quantity lies from -LIMIT to LIMIT.
-pub const LIMIT: i32 = 1000000;
+// A group has 1 to UNITS units.
+pub const UNITS: usize = 64;
 
-// A quantity within its range.
-pub fn quantity(z: i32, fault: Fault) -> Checked
-    ensures { λ r. ⌜ r ≡ check (inRange z) fault Fine ⌝ }
+// Whether a group can have so many units.
+pub fn is_count(units: usize) -> bool
+    ensures { λ r. ⌜ r ≡ unitCount units ⌝ }
 {
-    if z < -LIMIT {
+    if units < 1 {
+        return false;
+    }
+    units <= UNITS
+}
+
+// A nomination, or a margin, in its range.
+fn nomination(n: i32, fault: Fault) -> Checked
+    ensures { λ r. ⌜ r ≡ check (inRange n) fault Fine ⌝ }
+{
+    if n < -Nomination::LIMIT {
         return Checked::Faulty(fault);
     }
-    if LIMIT < z {
+    if Nomination::LIMIT < n {
         return Checked::Faulty(fault);
     }
     Checked::Fine
+}
+
+// A position in its range.
+fn position(pc: i32) -> Checked
+    ensures { λ r. ⌜ r ≡ check (inRange pc) Pc Fine ⌝ }
+{
+    if pc < -Position::LIMIT {
+        return Checked::Faulty(Fault::Pc);
+    }
+    if Position::LIMIT < pc {
+        return Checked::Faulty(Fault::Pc);
+    }
+    Checked::Fine
+}
+
+// A class that a unit can have.
+pub fn class(class: u8) -> Checked
+    ensures { λ r. ⌜ r ≡ check (knownClass class) Class Fine ⌝ }
+{
+    if is_class(class) {
+        return Checked::Fine;
+    }
+    Checked::Faulty(Fault::Class)
 }
 
 // A byte that is 0 or 1.
@@ -35,7 +73,7 @@ pub fn flag(b: u8, fault: Fault) -> Checked
 }
 
 // Margins that do not cross.
-fn margins(step_down: i32, step_up: i32) -> Checked
+fn ordered(step_down: i32, step_up: i32) -> Checked
     ensures { λ r. ⌜ r ≡ check (leZ «step_down» «step_up») Crossed Fine ⌝ }
 {
     if step_up < step_down {
@@ -44,21 +82,28 @@ fn margins(step_down: i32, step_up: i32) -> Checked
     Checked::Fine
 }
 
-// A unit's quantities: 8 for each in turn, then 9.
-pub fn amounts(n: i32, pc: i32, step_down: i32, step_up: i32) -> Checked
-    ensures { λ r. ⌜ r ≡ amountChecks n pc «step_down» «step_up» ⌝ }
+// A unit's margins: 8 for each, then 9.
+fn margins(m: Margins) -> Checked
+    ensures { λ r. ⌜ r ≡ marginChecks m ⌝ }
 {
-    let Checked::Fine = quantity(n, Fault::N) else {
-        return Checked::Faulty(Fault::N);
-    };
-    let Checked::Fine = quantity(pc, Fault::Pc) else {
-        return Checked::Faulty(Fault::Pc);
-    };
-    let Checked::Fine = quantity(step_down, Fault::StepDown) else {
+    let Checked::Fine = nomination(m.step_down, Fault::StepDown) else {
         return Checked::Faulty(Fault::StepDown);
     };
-    let Checked::Fine = quantity(step_up, Fault::StepUp) else {
+    let Checked::Fine = nomination(m.step_up, Fault::StepUp) else {
         return Checked::Faulty(Fault::StepUp);
     };
-    margins(step_down, step_up)
+    ordered(m.step_down, m.step_up)
+}
+
+// A unit's quantities: 8 for each in turn, then 9.
+pub fn amounts(n: Nomination, pc: Position, m: Margins) -> Checked
+    ensures { λ r. ⌜ r ≡ amountChecks (n .0) (pc .0) m ⌝ }
+{
+    let Checked::Fine = nomination(n.0, Fault::N) else {
+        return Checked::Faulty(Fault::N);
+    };
+    let Checked::Fine = position(pc.0) else {
+        return Checked::Faulty(Fault::Pc);
+    };
+    margins(m)
 }

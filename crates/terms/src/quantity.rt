@@ -1,8 +1,9 @@
 // Quantities with their signs, and what a class byte says.
 ghost use mathlib.Core.Path.{_≡_};
 ghost use lib.IntN.{negℤ};
+ghost use Rattle.numbers.specs.Choice.{pick};
 ghost use Rattle.numbers.specs.Range.{Within};
-ghost use Rattle.terms.specs.Quantities.{standing, sizeIn, implicit, consideredOf};
+ghost use Rattle.terms.specs.Quantities.{standing, knownClass, sizeIn, implicit};
 
 // Whole kWh, negative for a sale, positive for a purchase.
 pub struct Position(pub i32);
@@ -10,7 +11,21 @@ pub struct Position(pub i32);
 // Whole kWh, positive for an injection, negative for a withdrawal.
 pub struct Nomination(pub i32);
 
+// A unit's step-down and step-up margin, M- and M+, by which the steps work: whole kWh with a nomination's sign.
+pub struct Margins {
+    pub step_down: i32,
+    pub step_up: i32,
+}
+
+impl Nomination {
+    // A nomination of a unit, and each of its margins, lies from -LIMIT to LIMIT.
+    pub const LIMIT: i32 = 1000000;
+}
+
 impl Position {
+    // A position of a unit lies from -LIMIT to LIMIT, as its nomination.
+    pub const LIMIT: i32 = Nomination::LIMIT;
+
     // The one place where a position becomes a nomination: a sale of 500 matches a nomination of +500.
     pub fn nominated(self) -> Nomination
         requires { ⌜ Within 64000000 (self .0) ⌝ }
@@ -36,6 +51,13 @@ impl Standing {
             Standing::Enabled => class == 1,
         }
     }
+}
+
+// Whether a unit can be of this class.
+pub fn is_class(class: u8) -> bool
+    ensures { λ r. ⌜ r ≡ knownClass class ⌝ }
+{
+    class <= 1
 }
 
 // What step 2 cuts.
@@ -68,20 +90,6 @@ impl Direction {
     }
 }
 
-// The nomination that the checks start from.
-pub fn considered(nominated: u8, coincide: u8, n: Nomination, pc: Position) -> Nomination
-    requires { ⌜ Within 1000000 (pc .0) ⌝ }
-    ensures { λ r. ⌜ r .0 ≡ consideredOf nominated coincide (n .0) (pc .0) ⌝ }
-{
-    if nominated == 1 {
-        return n;
-    }
-    if coincide == 1 {
-        return pc.nominated();
-    }
-    Nomination(0)
-}
-
 // Whether a nomination is implicit, and taken.
 pub fn is_implicit(nominated: u8, coincide: u8) -> bool
     ensures { λ r. ⌜ r ≡ implicit nominated coincide ⌝ }
@@ -90,4 +98,15 @@ pub fn is_implicit(nominated: u8, coincide: u8) -> bool
         return false;
     }
     coincide == 1
+}
+
+// The nomination that the steps start from: what was sold where it is implicit, and else N, which is 0 where not nominated.
+pub fn considered(implicit: bool, n: Nomination, pc: Position) -> Nomination
+    requires { ⌜ Within 1000000 (pc .0) ⌝ }
+    ensures { λ r. ⌜ r .0 ≡ pick implicit (negℤ (pc .0)) (n .0) ⌝ }
+{
+    if implicit {
+        return pc.nominated();
+    }
+    n
 }

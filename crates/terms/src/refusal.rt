@@ -1,6 +1,6 @@
 // Refusals: why, and where.
 ghost use mathlib.Core.Path.{_≡_};
-ghost use Rattle.terms.specs.Refusals.{numberOf, whyOf, refusalOf};
+ghost use Rattle.terms.specs.Refusals.{numberOf, whyOf, noRefusal, refusalOf};
 
 // The reasons for a refusal, in the order of their numbers, 1 to 15.
 pub enum Why {
@@ -48,6 +48,16 @@ impl Why {
 pub struct Refusal {
     pub why: Why,
     pub place: usize,
+}
+
+// What an answer that is none hands out in place of a refusal: `let .. else` does not bind what was refused.
+pub fn no_refusal() -> Refusal
+    ensures { λ r. ⌜ r ≡ noRefusal ⌝ }
+{
+    Refusal {
+        why: Why::Kind,
+        place: 0,
+    }
 }
 
 // What can be wrong with a unit, field by field.
@@ -98,15 +108,12 @@ pub enum Answer {
 }
 
 impl Answer {
-    // The refusal of an answer that is one: `let .. else` does not bind it.
+    // The refusal of an answer that is one.
     pub fn refusal(self) -> Refusal
         ensures { λ r. ⌜ r ≡ refusalOf self ⌝ }
     {
         match self {
-            Answer::Is(_) => Refusal {
-                why: Why::Kind,
-                place: 0,
-            },
+            Answer::Is(_) => no_refusal(),
             Answer::Refused(r) => r,
         }
     }

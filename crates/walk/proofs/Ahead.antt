@@ -10,11 +10,7 @@ use Rattle.walk.specs.declared.step.Extent.{Extent}
 use Rattle.walk.specs.declared.table.State.the-variants.{Fresh}
 use Rattle.walk.specs.declared.walker.Walker.{Walker}
 use Rattle.walk.specs.Walk.{Found, extent, done, follow, stepOf, walkFrom}
-use Rattle.walk.specs.Stands.{standAfter, standAhead, openedOn, aheadOf}
-
--- what is replied where a walk stands
-abbrev there : List ℕ → Stand → Reply Found
-there s stand = stepOf s (stand .state) (stand .place)
+use Rattle.walk.specs.Stands.{there, standAfter, standAhead, openedOn, aheadOf}
 
 module _ (s : List ℕ) (steps i : ℕ) (stand : Stand) where
   pub one-ahead : i < steps → standAhead s stand (steps - i) ≡ standAhead s (standAfter stand (there s stand)) (steps - (i + 1))

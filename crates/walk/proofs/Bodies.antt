@@ -1,19 +1,18 @@
 -- The table's rule, shown once for all its entries: a table that computes to the columns of bodies has each body at its row and kind.
-use Prim.Native.Nat.{ℕ, _≤_, _<_}
+use Prim.Native.Nat.{ℕ, _-_, _≤_, _<_}
 use mathlib.Core.Path.{_≡_, refl}
-use mathlib.Core.List.{List, [], _∷_}
+use mathlib.Core.List.{List, []}
 use native.Mathlib.Omega.{arith}
 use borrow.Author.Tests.{ne-eqb}
+use lib.Dec.{eqb}
 use lib.ListN.{getD}
 use Rattle.numbers.specs.Column.{column}
+use Rattle.numbers.proofs.Choices.{pick-ind}
 use Rattle.numbers.proofs.Columns.{column-at}
+use Rattle.records.specs.Layouts.{dayKind, dayLength, groupKind, endKind}
 use Rattle.walk.specs.declared.table.State.{State}
 use Rattle.walk.specs.declared.table.State.the-variants.{Fresh, Open, Closed}
-use Rattle.walk.specs.Table.{bodyOf, rowOf}
-
--- for each state, the bodies of all the kinds
-abbrev rows : List (List ℕ)
-rows = column 16 (bodyOf Fresh) ∷ column 16 (bodyOf Open) ∷ column 16 (bodyOf Closed) ∷ []
+use Rattle.walk.specs.Table.{body, bodyOf, rowOf, rows}
 
 row-at : (state : State) → getD rows (rowOf state) [] ≡ column 16 (bodyOf state)
 row-at Fresh = refl
@@ -31,6 +30,14 @@ row-below Closed = omega arith
 
 -- no record of a kind past the table's columns may come
 pub body-past : (state : State) (kind : ℕ) → 16 ≤ kind → 0 ≡ bodyOf state kind
-body-past Fresh kind h = rw (ne-eqb kind 1 (λ e. omega arith))
-body-past Open kind h = rw (ne-eqb kind 2 (λ e. omega arith), ne-eqb kind 15 (λ e. omega arith))
+body-past Fresh kind h = rw (ne-eqb kind dayKind (λ e. omega arith))
+body-past Open kind h = rw (ne-eqb kind groupKind (λ e. omega arith), ne-eqb kind endKind (λ e. omega arith))
 body-past Closed kind h = refl
+
+-- no body is longer than a day record's
+pub body-short : (state : State) (kind : ℕ) → bodyOf state kind ≤ dayLength - 1
+body-short Fresh kind = pick-ind (eqb kind dayKind) _ _ (λ e. body e ≤ dayLength - 1) (λ _. omega arith) (λ _. omega arith)
+body-short Open kind =
+    pick-ind (eqb kind groupKind) _ _ (λ e. body e ≤ dayLength - 1) (λ _. omega arith)
+    (λ _. pick-ind (eqb kind endKind) _ _ (λ e. body e ≤ dayLength - 1) (λ _. omega arith) (λ _. omega arith))
+body-short Closed kind = omega arith

@@ -1,47 +1,72 @@
 -- What a head that was read in a state says of the record, since each test of the head passed; and that it is the head of the one kind that came.
-use Prim.Native.Nat.{ℕ, _+_, _≤_}
-use mathlib.Core.Path.{_≡_, refl, sym}
+use Prim.Native.Nat.{ℕ, _+_, _-_, _≤_}
+use mathlib.Core.Path.{_≡_, refl, sym, ap, _∙_}
 use mathlib.Core.Bool.{Bool, true, false}
 use mathlib.Core.List.{List}
 use native.Mathlib.Omega.{arith}
-use borrow.Author.Tests.{ltb-true, leb-true, eqb-true, lt-ltb, le-leb, eq-eqb}
+use borrow.Author.Tests.{ltb-true, leb-true, eqb-true, lt-ltb, le-leb, eq-eqb, ne-eqb}
 use lib.Dec.{eqb, ltb}
 use lib.ListN.{length}
 use Rattle.numbers.specs.Bytes.{byteAt}
 use Rattle.numbers.specs.Choice.{pick}
 use Rattle.terms.specs.Reply.{Reply, is, need, next}
 use Rattle.terms.proofs.Replies.{need-is}
-use Rattle.records.specs.Layouts.{dayKind, groupKind, groupLength, endKind}
+use Rattle.records.specs.Layouts.{dayKind, dayLength, groupKind, groupLength, endKind, endLength}
 use Rattle.records.specs.Reading.{headOf}
 use Rattle.walk.specs.declared.table.State.{State}
 use Rattle.walk.specs.declared.table.State.the-variants.{Fresh, Open, Closed}
+use Rattle.walk.specs.declared.table.Role.{Role}
+use Rattle.walk.specs.declared.table.Role.the-variants.{Opens, Block, Closes}
 use Rattle.walk.specs.declared.table.Head.{Head}
-use Rattle.walk.specs.Table.{bodyOf, mayCome, headIn}
+use Rattle.walk.specs.Table.{comes, none, body, Coming, theDay, aGroup, theEnd, lengthAs, Row, roleOr, roleOf, bodyOf, isBlock, mayCome, headIn, blockHeadIn}
 
--- the records that may come
-pub data Coming (state : State) (kind : ℕ) : Type 0 where
-  theDay : state ≡ Fresh → kind ≡ dayKind → Coming state kind
-  aGroup : state ≡ Open → kind ≡ groupKind → Coming state kind
-  theEnd : state ≡ Open → kind ≡ endKind → Coming state kind
-
-pub coming : (state : State) (kind : ℕ) → mayCome state kind ≡ true → Coming state kind
-coming Fresh kind e = go (eqb kind dayKind) refl e
+-- the table, row by row
+pub row-comes : (state : State) (kind : ℕ) → mayCome state kind ≡ true → Row state kind
+row-comes Fresh kind e = go (eqb kind dayKind) refl e
   where
-    go : (d : Bool) → eqb kind dayKind ≡ d → ltb 0 (pick d 11 0) ≡ true → Coming Fresh kind
-    go true k e = theDay refl (eqb-true _ _ k)
+    go : (d : Bool) → eqb kind dayKind ≡ d → ltb 0 (body (pick d (comes Opens (dayLength - 1)) none)) ≡ true → Row Fresh kind
+    go true k e = rw (eqb-true kind dayKind k) (record { which = theDay refl refl; fixed = refl })
     go false k e = absurd (omega (arith, ltb-true 0 0 e))
-coming Open kind e = go (eqb kind groupKind) (eqb kind endKind) refl refl e
+row-comes Open kind e = go (eqb kind groupKind) (eqb kind endKind) refl refl e
   where
-    go : (g n : Bool) → eqb kind groupKind ≡ g → eqb kind endKind ≡ n → ltb 0 (pick g 9 (pick n 4 0)) ≡ true → Coming Open kind
-    go true n k j e = aGroup refl (eqb-true _ _ k)
-    go false true k j e = theEnd refl (eqb-true _ _ j)
+    go : (g n : Bool) → eqb kind groupKind ≡ g → eqb kind endKind ≡ n → ltb 0 (body (pick g (comes Block (groupLength - 1)) (pick n (comes Closes (endLength - 1)) none))) ≡ true → Row Open kind
+    go true n k j e = rw (eqb-true kind groupKind k) (record { which = aGroup refl refl; fixed = refl })
+    go false true k j e = rw (eqb-true kind endKind j) (record { which = theEnd refl refl; fixed = refl })
     go false false k j e = absurd (omega (arith, ltb-true 0 0 e))
-coming Closed kind e = absurd (omega (arith, ltb-true 0 0 e))
+row-comes Closed kind e = absurd (omega (arith, ltb-true 0 0 e))
+
+-- a record that neither opens a day nor is a block
+pub role-else : (kind : ℕ) → (kind ≡ dayKind → ⊥) → (kind ≡ groupKind → ⊥) → Closes ≡ roleOf kind
+role-else kind d g = simp (ne-eqb kind dayKind d, ne-eqb kind groupKind g) (go (eqb kind endKind))
+  where
+    go : (n : Bool) → Closes ≡ roleOr Closes (pick n (comes Closes (endLength - 1)) none)
+    go true = refl
+    go false = refl
+
+-- what is a block is no other record, and comes to an open day alone
+pub is-block : (role : Role) → isBlock role ≡ true → role ≡ Block
+is-block Opens e =
+    let z : _≡_ {A = ℕ} 0 1 = cc in
+    absurd (omega arith)
+is-block Block e = refl
+is-block Closes e =
+    let z : _≡_ {A = ℕ} 0 1 = cc in
+    absurd (omega arith)
+
+pub block-open : (state : State) (role : Role) → Coming state role → role ≡ Block → state ≡ Open
+block-open state role (theDay p q) k =
+    let e : isBlock Opens ≡ isBlock Block = ap isBlock (sym q ∙ k) in
+    let z : _≡_ {A = ℕ} 0 1 = cc in
+    absurd (omega arith)
+block-open state role (aGroup p q) k = p
+block-open state role (theEnd p q) k = p
 
 pub record Came (s : List ℕ) (at : ℕ) (state : State) (h : Head) : Type 0 where
-  pub which : Coming state (h .kind)
-  pub first : byteAt s at ≡ h .kind
-  pub end : h .end ≡ at + (1 + bodyOf state (h .kind))
+  pub first : roleOf (byteAt s at) ≡ h .role
+  pub may : mayCome state (byteAt s at) ≡ true
+  pub which : Coming state (h .role)
+  pub past : h .end ≡ at + (1 + bodyOf state (byteAt s at))
+  pub end : h .end ≡ at + lengthAs (h .role)
   pub long : h .end ≤ length s
 
 next-need : {A B : Type 0} (t : Bool) (n p : ℕ) (x : Reply A) (rest : A → Reply B) → next (need t n p x) rest ≡ need t n p (next x rest)
@@ -56,41 +81,52 @@ module _ (s : List ℕ) (at : ℕ) (state : State) where
       let a = need-is _ _ _ _ e in
       let b = need-is _ _ _ _ (a .1) in
       let d = need-is _ _ _ _ (b .1) in
-      let k : byteAt s at ≡ h .kind = cc in
+      let k : roleOf (byteAt s at) ≡ h .role = cc in
       let n : at + (1 + bodyOf state (byteAt s at)) ≡ h .end = cc in
+      let r = row-comes state (byteAt s at) (b .0) in
       record {
-        which = rw (← k) (coming state (byteAt s at) (b .0));
         first = k;
-        end = rw (← k) (sym n);
+        may = b .0;
+        which = rw (← k) (r .which);
+        past = sym n;
+        end = rw (← k) (sym n ∙ ap (λ (x : ℕ). at + x) (r .fixed));
         long = omega (arith, leb-true (at + (1 + bodyOf state (byteAt s at))) (length s) (d .0));
       }
 
-  -- a record that came lies whole in the bytes: of a group in the open state, at + 10 ≤ length s
-  pub whole : (h : Head) → headIn s at state ≡ is h → (kind : ℕ) → h .kind ≡ kind → at + (1 + bodyOf state kind) ≤ length s
-  whole h e kind k =
+  -- a block that came has its group record whole
+  pub group-whole : (h : Head) → headIn s at state ≡ is h → isBlock (h .role) ≡ true → at + groupLength ≤ length s
+  group-whole h e k =
       let m = came h e in
-      rw (← k) (omega (arith, m .end, m .long))
-
-  -- whatever the state, a group record that came has its 10 bytes
-  pub group-whole : (h : Head) → headIn s at state ≡ is h → h .kind ≡ groupKind → at + groupLength ≤ length s
-  group-whole h e k = go (came h e .which)
-    where
-      go : Coming state (h .kind) → at + groupLength ≤ length s
-      go (theDay f d) = absurd (omega arith)
-      go (aGroup o g) = rw o at (whole h e groupKind k)
-      go (theEnd o n) = absurd (omega arith)
-
-  -- it is the record that its own kind and length tell
-  pub head-is : (h : Head) → headIn s at state ≡ is h → headOf s at (h .kind) (1 + bodyOf state (h .kind)) ≡ is (h .end)
-  unfolding headOf need
-  head-is h e =
-      let m = came h e in
-      let n = at + (1 + bodyOf state (h .kind)) in
-      simp (m .first, eq-eqb (h .kind) (h .kind) refl, lt-ltb at (length s) (omega (arith, m .end, m .long)), le-leb n (length s) (omega (arith, m .end, m .long)), m .end)
+      let n : h .end ≡ at + groupLength = m .end ∙ ap (λ (x : Role). at + lengthAs x) (is-block (h .role) k) in
+      omega (arith, m .long)
 
   -- where a kind may come and has come, its head by the table is its head by its kind and length
   pub head-of : (kind : ℕ) → mayCome state kind ≡ true → byteAt s at ≡ kind
-      → headIn s at state ≡ next (headOf s at kind (1 + bodyOf state kind)) λ end. is (record { kind = kind; end = end })
+      → headIn s at state ≡ next (headOf s at kind (1 + bodyOf state kind)) λ end. is (record { role = roleOf kind; end = end })
   unfolding headIn headOf need next
   head-of kind c k =
       simp (k, c, eq-eqb kind kind refl, next-need {A = ℕ} {B = Head})
+
+-- a block by its head: it is one by the table, it comes, and its group record is there whole
+pub record BlockCame (s : List ℕ) (at : ℕ) (state : State) (h : Head) : Type 0 where
+  pub first : roleOf (byteAt s at) ≡ Block
+  pub read : headIn s at state ≡ is h
+  pub role : h .role ≡ Block
+  pub long : at + groupLength ≤ length s
+
+pub block-came : (s : List ℕ) (at : ℕ) (state : State) (h : Head) → blockHeadIn s at state ≡ is h → BlockCame s at state h
+unfolding blockHeadIn
+block-came s at state h e =
+    let b = need-is _ _ _ _ (need-is _ _ _ _ e .1) in
+    let k = is-block (roleOf (byteAt s at)) (b .0) in
+    let r = sym (came s at state h (b .1) .first) ∙ k in
+    record { first = k; read = b .1; role = r; long = group-whole s at state h (b .1) (ap isBlock r) }
+
+-- a record that came at a place comes wherever its first byte stands and its length fits
+pub head-moved : (s t : List ℕ) (at to n : ℕ) (state : State) {h : Head} → headIn s at state ≡ is h → h .end ≡ at + n → byteAt t to ≡ byteAt s at → to + n ≤ length t
+    → headIn t to state ≡ is (record { role = h .role; end = to + n })
+unfolding headIn need
+head-moved s t at to n state {h} e q b l =
+    let m = came s at state h e in
+    let x : 1 + bodyOf state (byteAt s at) ≡ n = omega (arith, m .past) in
+    simp (b, lt-ltb to (length t) (omega arith), m .may, x, le-leb (to + n) (length t) l, m .first)

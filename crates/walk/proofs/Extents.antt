@@ -5,19 +5,16 @@ use mathlib.Core.Bool.{Bool, true, false}
 use mathlib.Core.List.{List}
 use native.Mathlib.Omega.{arith}
 use native.Mathlib.Decide.{decLt}
-use borrow.Author.Tests.{eqb-true}
-use lib.Dec.{eqb}
 use lib.ListN.{length}
 use Rattle.numbers.specs.Choice.{pick}
 use Rattle.terms.specs.Reply.{is}
 use Rattle.terms.proofs.Replies.{never, next-is}
-use Rattle.records.specs.Layouts.{groupKind}
 use Rattle.walk.specs.declared.table.State.{State}
 use Rattle.walk.specs.declared.table.Head.{Head}
 use Rattle.walk.specs.declared.step.Extent.{Extent}
-use Rattle.walk.specs.Table.{isClosed, headIn}
+use Rattle.walk.specs.Table.{isBlock, stateAfter, isClosed, headIn}
 use Rattle.walk.specs.Extents.{Lies}
-use Rattle.walk.specs.Walk.{extent, blockOf, wholeOf, stateAfter, recordOf, stepOf}
+use Rattle.walk.specs.Walk.{extent, blockEndOf, wholeOf, recordOf, stepOf}
 use Rattle.walk.proofs.Coming.{came, group-whole}
 use Rattle.walk.proofs.UnitHeads.{block-run}
 use Rattle.walk.proofs.Places.{step-within, step-done, step-short}
@@ -25,16 +22,16 @@ use Rattle.walk.proofs.Places.{step-within, step-done, step-short}
 -- a record ends past its start, within the bytes
 ends : (s : List ℕ) (at : ℕ) (state : State) (h : Head) (end : ℕ) → headIn s at state ≡ is h → wholeOf s at h ≡ is end → (at < end) × (end ≤ length s)
 unfolding wholeOf
-ends s at state h end e w = go (eqb (h .kind) groupKind) refl w
+ends s at state h end e w = go (isBlock (h .role)) refl w
   where
-    go : (g : Bool) → eqb (h .kind) groupKind ≡ g → pick g (blockOf s at) (is (h .end)) ≡ is end → (at < end) × (end ≤ length s)
+    go : (g : Bool) → isBlock (h .role) ≡ g → pick g (blockEndOf s at) (is (h .end)) ≡ is end → (at < end) × (end ≤ length s)
     go true g w =
-        let m = block-run s at (group-whole s at state h e (eqb-true _ _ g)) w in
+        let m = block-run s at (group-whole s at state h e g) w in
         (omega (arith, m .run), m .within)
     go false g w =
         let m = came s at state h e in
         let q : h .end ≡ end = cc in
-        (omega (arith, m .end), omega (arith, m .long))
+        (omega (arith, m .past), omega (arith, m .long))
 
 -- a step that gave an extent: the head of the record, and where it ends
 pub record Taken (s : List ℕ) (state : State) (place : ℕ) (e : Extent) : Type 0 where
@@ -42,7 +39,7 @@ pub record Taken (s : List ℕ) (state : State) (place : ℕ) (e : Extent) : Typ
   pub read : headIn s place state ≡ is head
   pub start : e .start ≡ place
   pub end : wholeOf s place head ≡ is (e .end)
-  pub after : e .after ≡ stateAfter (head .kind)
+  pub after : e .after ≡ stateAfter (head .role)
 
 module _ (s : List ℕ) (state : State) (place : ℕ) (e : Extent) (q : stepOf s state place ≡ is (extent e)) where
   pub taken : Taken s state place e
@@ -62,7 +59,7 @@ module _ (s : List ℕ) (state : State) (place : ℕ) (e : Extent) (q : stepOf s
           let b = next-is _ _ (a .1 .1) in
           let n : place ≡ e .start = cc in
           let m : b .0 ≡ e .end = cc in
-          let w : stateAfter (a .0 .kind) ≡ e .after = cc in
+          let w : stateAfter (a .0 .role) ≡ e .after = cc in
           record { head = a .0; read = a .1 .0; start = sym n; end = b .1 .0 ∙ ap is m; after = sym w }
       go (no h) = past (isClosed state) refl (omega arith)
 

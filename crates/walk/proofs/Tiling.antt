@@ -18,10 +18,10 @@ use Rattle.walk.specs.Extents.{Tiles, lastEnd, bytesIn}
 use Rattle.walk.proofs.Places.{step-within, step-short}
 use Rattle.walk.proofs.Extents.{lies}
 
-pub tiles : (s : List ℕ) (state : State) (place more : ℕ) → let es = walkFrom s state place more .extents in Tiles s place es (lastEnd place es)
+pub walk-tiles : (s : List ℕ) (state : State) (place more : ℕ) → let es = walkFrom s state place more .extents in Tiles s place es (lastEnd place es)
 unfolding walkFrom
-tiles s state place zero = refl
-tiles s state place (suc more) = go (stepOf s state place) refl (λ e. tiles s (e .after) (e .end) more)
+walk-tiles s state place zero = refl
+walk-tiles s state place (suc more) = go (stepOf s state place) refl (λ e. walk-tiles s (e .after) (e .end) more)
   where
     go : (r : Reply Found) → stepOf s state place ≡ r
         → ((e : Extent) → let es = walkFrom s (e .after) (e .end) more .extents in Tiles s (e .end) es (lastEnd (e .end) es))
@@ -86,10 +86,10 @@ walked-all s state place (suc more) d = go (stepOf s state place) refl (λ e. wa
     go (refused n p) q later d = never d
 
 -- the extents of a whole day that is walked to its end hold its bytes, each once
-pub whole-input : (s : List ℕ) (more : ℕ) → walkFrom s Fresh 0 more .reply ≡ is done → bytesIn s (walkFrom s Fresh 0 more .extents) ≡ s
-whole-input s more d =
+pub walk-whole : (s : List ℕ) (more : ℕ) → walkFrom s Fresh 0 more .reply ≡ is done → bytesIn s (walkFrom s Fresh 0 more .extents) ≡ s
+walk-whole s more d =
     let es = walkFrom s Fresh 0 more .extents in
-    let t = tiles s Fresh 0 more in
+    let t = walk-tiles s Fresh 0 more in
     let h = within s 0 es (lastEnd 0 es) t (omega arith) in
     let e : lastEnd 0 es ≡ length s = omega (arith, walked-all s Fresh 0 more d) in
     pieces s 0 es (lastEnd 0 es) t h ∙ rw e (take-length s)

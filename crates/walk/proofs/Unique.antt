@@ -4,7 +4,7 @@ use mathlib.Core.Path.{_≡_, refl, sym, ap, _∙_}
 use native.Mathlib.Omega.{arith}
 use Rattle.terms.specs.Reply.{Reply}
 use Rattle.terms.proofs.Replies.{never}
-use Rattle.terms.proofs.Same.{same-refusal}
+use Rattle.terms.proofs.Same.{refusal-same}
 use Rattle.walk.specs.declared.table.Head.{Head}
 use Rattle.walk.specs.declared.table.HeadAnswer.{HeadAnswer}
 use Rattle.walk.specs.declared.step.Step.{Step}
@@ -13,29 +13,29 @@ use Rattle.walk.specs.Answers.{headReply, stepReply}
 use Rattle.walk.specs.declared.table.HeadAnswer.the-variants as H
 use Rattle.walk.specs.declared.step.Step.the-variants as S
 
-same-head : (x y : HeadAnswer) → headReply x ≡ headReply y → x ≡ y
-same-head (H.Is a) (H.Is b) e = let s : a ≡ b = cc in ap H.Is s
-same-head (H.Is a) (H.Refused q) e = never (sym e)
-same-head (H.Refused r) (H.Is b) e = never e
-same-head (H.Refused r) (H.Refused q) e = ap H.Refused (same-refusal r q e)
+head-answer-same : (x y : HeadAnswer) → headReply x ≡ headReply y → x ≡ y
+head-answer-same (H.Is a) (H.Is b) e = let s : a ≡ b = cc in ap H.Is s
+head-answer-same (H.Is a) (H.Refused q) e = never (sym e)
+head-answer-same (H.Refused r) (H.Is b) e = never e
+head-answer-same (H.Refused r) (H.Refused q) e = ap H.Refused (refusal-same r q e)
 
-pub unique-head : {r : Reply Head} (x y : HeadAnswer) → headReply x ≡ r → headReply y ≡ r → x ≡ y
-unique-head x y p q = same-head x y (p ∙ sym q)
+pub head-in-unique : {r : Reply Head} (x y : HeadAnswer) → headReply x ≡ r → headReply y ≡ r → x ≡ y
+head-in-unique x y p q = head-answer-same x y (p ∙ sym q)
 
-same-step : (x y : Step) → stepReply x ≡ stepReply y → x ≡ y
-same-step (S.Record a) (S.Record b) e = let s : a ≡ b = cc in ap S.Record s
-same-step (S.Record a) (S.Refused q) e = never (sym e)
-same-step (S.Record a) S.Done e =
+step-same : (x y : Step) → stepReply x ≡ stepReply y → x ≡ y
+step-same (S.Record a) (S.Record b) e = let s : a ≡ b = cc in ap S.Record s
+step-same (S.Record a) (S.Refused q) e = never (sym e)
+step-same (S.Record a) S.Done e =
     let z : _≡_ {A = ℕ} 0 1 = cc in
     absurd (omega arith)
-same-step (S.Refused r) (S.Record b) e = never e
-same-step (S.Refused r) (S.Refused q) e = ap S.Refused (same-refusal r q e)
-same-step (S.Refused r) S.Done e = never e
-same-step S.Done (S.Record b) e =
+step-same (S.Refused r) (S.Record b) e = never e
+step-same (S.Refused r) (S.Refused q) e = ap S.Refused (refusal-same r q e)
+step-same (S.Refused r) S.Done e = never e
+step-same S.Done (S.Record b) e =
     let z : _≡_ {A = ℕ} 0 1 = cc in
     absurd (omega arith)
-same-step S.Done (S.Refused q) e = never (sym e)
-same-step S.Done S.Done e = refl
+step-same S.Done (S.Refused q) e = never (sym e)
+step-same S.Done S.Done e = refl
 
-pub unique-step : {r : Reply Found} (x y : Step) → stepReply x ≡ r → stepReply y ≡ r → x ≡ y
-unique-step x y p q = same-step x y (p ∙ sym q)
+pub step-unique : {r : Reply Found} (x y : Step) → stepReply x ≡ r → stepReply y ≡ r → x ≡ y
+step-unique x y p q = step-same x y (p ∙ sym q)

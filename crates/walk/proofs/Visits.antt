@@ -1,5 +1,5 @@
 -- The walk over a day gives the extents of its records and then is done, and is done on nothing else: each record's head by the table is its head by its kind.
-use Prim.Native.Nat.{ℕ, zero, suc, _+_, _≤_}
+use Prim.Native.Nat.{ℕ, zero, suc, _≤_}
 use mathlib.Core.Path.{_≡_, refl}
 use mathlib.Core.List.{List, [], _∷_}
 use native.Mathlib.Omega.{arith}
@@ -17,14 +17,14 @@ use Rattle.walk.proofs.Gives.{Given, aDay, aBlock, anEnd, given, step-o
 
 visits-blocks : (s : List ℕ) {at : ℕ} {es : List Extent} → Blocks s at es → walkFrom s Open at (length es) ≡ record { extents = es; reply = is done }
 unfolding walkFrom wholeOf
-visits-blocks s (block at end es h b more) =
-    rw (step-of s Open at 2 (at + 10) end refl h b, visits-blocks s more)
+visits-blocks s (block at units end es h b more) =
+    rw (step-of s Open at end _ h b, visits-blocks s more)
 visits-blocks s (ending at h) =
-    rw (step-of s Open at 15 (length s) (length s) refl h refl, step-done s Closed (length s) (omega arith) refl)
+    rw (step-of s Open at (length s) _ h refl, step-done s Closed (length s) (omega arith) refl)
 
-pub visits : (s : List ℕ) {es : List Extent} → DayOf s es → walkFrom s Fresh 0 (length es) ≡ record { extents = es; reply = is done }
+pub walk-visits : (s : List ℕ) {es : List Extent} → DayOf s es → walkFrom s Fresh 0 (length es) ≡ record { extents = es; reply = is done }
 unfolding walkFrom wholeOf
-visits s (opening es h b) = rw (step-of s Fresh 0 1 12 12 refl h refl, visits-blocks s b)
+walk-visits s (opening end es h b) = rw (step-of s Fresh 0 end _ h refl, visits-blocks s b)
 
 closed-end : (s : List ℕ) (place more : ℕ) → walkFrom s Closed place more .reply ≡ is done
     → (walkFrom s Closed place more .extents ≡ []) × (length s ≤ place)
@@ -52,7 +52,7 @@ blocks-of s at (suc more) d = go (stepOf s Open at) refl (λ end. blocks-of s en
     onward : {e : Extent} → Given s at Open e → e .end ≤ length s
         → ((end : ℕ) → walkFrom s Open end more .reply ≡ is done → Blocks s end (walkFrom s Open end more .extents))
         → walkFrom s (e .after) (e .end) more .reply ≡ is done → Blocks s at (e ∷ walkFrom s (e .after) (e .end) more .extents)
-    onward (aBlock end h b) l later d = block at end _ h b (later end d)
+    onward (aBlock units end h b) l later d = block at units end _ h b (later end d)
     onward (anEnd end h) l later d =
         let c = closed-end s end more d in
         let x : end ≡ length s = omega (arith, c .1) in
@@ -69,17 +69,17 @@ blocks-of s at (suc more) d = go (stepOf s Open at) refl (λ end. blocks-of s en
     go (refused n p) q later d = never d
 
 -- a walk that is done has gone over a day
-pub day-of : (s : List ℕ) (more : ℕ) → walkFrom s Fresh 0 more .reply ≡ is done → DayOf s (walkFrom s Fresh 0 more .extents)
+pub walk-day : (s : List ℕ) (more : ℕ) → walkFrom s Fresh 0 more .reply ≡ is done → DayOf s (walkFrom s Fresh 0 more .extents)
 unfolding walkFrom
-day-of s zero d =
+walk-day s zero d =
     let c = step-is-done s Fresh 0 d .0 in
     let z : _≡_ {A = ℕ} 0 1 = cc in
     absurd (omega arith)
-day-of s (suc more) d = go (stepOf s Fresh 0) refl d
+walk-day s (suc more) d = go (stepOf s Fresh 0) refl d
   where
     onward : {e : Extent} → Given s 0 Fresh e → walkFrom s (e .after) (e .end) more .reply ≡ is done
         → DayOf s (e ∷ walkFrom s (e .after) (e .end) more .extents)
-    onward (aDay h) d = opening _ h (blocks-of s 12 more d)
+    onward (aDay end h) d = opening end _ h (blocks-of s end more d)
 
     go : (r : Reply Found) → stepOf s Fresh 0 ≡ r
         → let w = follow r (λ e. walkFrom s (e .after) (e .end) more) in w .reply ≡ is done → DayOf s (w .extents)

@@ -1,8 +1,7 @@
 -- "Numbers given back": each answer as a reply, and the refusal of an answer that is one.
 use Rattle.terms.specs.Reply.{Reply, is}
-use Rattle.terms.specs.Refusals.{refusal}
+use Rattle.terms.specs.Refusals.{refusal, noRefusal}
 use Rattle.terms.specs.declared.refusal.Refusal.{Refusal}
-use Rattle.records.specs.Answers.{noRefusal}
 use Rattle.walk.specs.declared.table.Head.{Head}
 use Rattle.walk.specs.declared.table.HeadAnswer.{HeadAnswer}
 use Rattle.walk.specs.declared.table.HeadAnswer.the-variants as H

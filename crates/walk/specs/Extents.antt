@@ -1,16 +1,18 @@
 -- Extents one after another, the bytes that they hold, and a day by its extents.
-use Prim.Native.Nat.{ℕ, _+_, _≤_, _<_}
+use Prim.Native.Nat.{ℕ, _≤_, _<_}
 use mathlib.Core.Path.{_≡_}
 use mathlib.Core.List.{List, [], _∷_, _++_}
 use lib.ListN.{length}
 use lib.Seq.{slice}
-use Rattle.terms.specs.Reply.{is}
-use Rattle.records.specs.Layouts.{dayKind, dayLength, groupKind, groupLength, endKind, endLength}
-use Rattle.records.specs.Reading.{headOf}
+use Rattle.terms.specs.Reply.{Reply, is}
 use Rattle.walk.specs.declared.table.State.{State}
-use Rattle.walk.specs.declared.table.State.the-variants.{Open, Closed}
+use Rattle.walk.specs.declared.table.State.the-variants.{Fresh, Open, Closed}
+use Rattle.walk.specs.declared.table.Role.{Role}
+use Rattle.walk.specs.declared.table.Role.the-variants.{Opens, Block, Closes}
+use Rattle.walk.specs.declared.table.Head.{Head}
 use Rattle.walk.specs.declared.step.Extent.{Extent}
-use Rattle.walk.specs.Walk.{blockOf}
+use Rattle.walk.specs.Table.{headIn}
+use Rattle.walk.specs.Walk.{blockEndOf}
 
 abbrev pub from : ℕ → ℕ → State → Extent
 from start end after = record { start = start; end = end; after = after }
@@ -36,11 +38,13 @@ abbrev pub bytesIn : List ℕ → List Extent → List ℕ
 bytesIn s [] = []
 bytesIn s (e ∷ es) = slice (e .start) (e .end) s ++ bytesIn s es
 
--- "House records": a day is one day record, blocks, one end record, and nothing after it; of what else is asked of a day the walker checks nothing
+-- "House records": a day is one day record, blocks, one end record, and nothing after it, each by the table; of what else is asked of a day the walker checks nothing
+abbrev pub headed : Role → ℕ → Reply Head
+headed role end = is (record { role = role; end = end })
+
 pub data Blocks (s : List ℕ) : ℕ → List Extent → Type 0 where
-  block : (at end : ℕ) (es : List Extent) → headOf s at groupKind groupLength ≡ is (at + groupLength) → blockOf s at ≡ is end → Blocks s end es
-      → Blocks s at (from at end Open ∷ es)
-  ending : (at : ℕ) → headOf s at endKind endLength ≡ is (length s) → Blocks s at (from at (length s) Closed ∷ [])
+  block : (at units end : ℕ) (es : List Extent) → headIn s at Open ≡ headed Block units → blockEndOf s at ≡ is end → Blocks s end es → Blocks s at (from at end Open ∷ es)
+  ending : (at : ℕ) → headIn s at Open ≡ headed Closes (length s) → Blocks s at (from at (length s) Closed ∷ [])
 
 pub data DayOf (s : List ℕ) : List Extent → Type 0 where
-  opening : (es : List Extent) → headOf s 0 dayKind dayLength ≡ is dayLength → Blocks s dayLength es → DayOf s (from 0 dayLength Open ∷ es)
+  opening : (end : ℕ) (es : List Extent) → headIn s 0 Fresh ≡ headed Opens end → Blocks s end es → DayOf s (from 0 end Open ∷ es)

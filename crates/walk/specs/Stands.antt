@@ -18,10 +18,14 @@ standAfter stand (is (extent e)) = record { state = e .after; place = e .end }
 standAfter stand (is done) = stand
 standAfter stand (refused number place) = stand
 
+-- what is replied where a walk stands
+abbrev pub there : List ℕ → Stand → Reply Found
+there s stand = stepOf s (stand .state) (stand .place)
+
 -- after so many steps
 unfoldable pub standAhead : List ℕ → Stand → ℕ → Stand
 standAhead s stand zero = stand
-standAhead s stand (suc more) = standAhead s (standAfter stand (stepOf s (stand .state) (stand .place))) more
+standAhead s stand (suc more) = standAhead s (standAfter stand (there s stand)) more
 
 -- the same bytes, from there
 abbrev pub aheadOf : Walker → ℕ → Walker

@@ -6,13 +6,13 @@ use lib.Dec.{eqb, ltb}
 use lib.ListN.{length}
 use Rattle.numbers.specs.Choice.{pick}
 use Rattle.terms.specs.Reply.{Reply, is, refused, need, next}
-use Rattle.records.specs.Layouts.{groupKind, groupLength, groupCount, groupAt, unitKind, unitLength, endKind}
-use Rattle.records.specs.Reading.{headOf, unitCount}
+use Rattle.records.specs.Layouts.{groupLength, groupCount, groupAt}
+use Rattle.terms.specs.Checks.{unitCount}
+use Rattle.records.specs.Reading.{unitHeadOf}
 use Rattle.walk.specs.declared.table.State.{State}
-use Rattle.walk.specs.declared.table.State.the-variants.{Open, Closed}
 use Rattle.walk.specs.declared.table.Head.{Head}
 use Rattle.walk.specs.declared.step.Extent.{Extent}
-use Rattle.walk.specs.Table.{isClosed, headIn}
+use Rattle.walk.specs.Table.{isBlock, stateAfter, isClosed, headIn}
 
 -- what a step finds: the next record's extent, or that the day is done
 pub data Found : Type 0 where
@@ -22,28 +22,24 @@ pub data Found : Type 0 where
 -- where so many units from a place on end: each unit's 2 and 1
 unfoldable pub headsOf : List ℕ → ℕ → ℕ → Reply ℕ
 headsOf s at zero = is at
-headsOf s at (suc left) = next (headOf s at unitKind unitLength) λ end. headsOf s end left
+headsOf s at (suc left) = next (unitHeadOf s at) λ end. headsOf s end left
 
 -- where the block at a place ends: of the fields only 5, then each unit's 2 and 1
-unfoldable pub blockOf : List ℕ → ℕ → Reply ℕ
-blockOf s at =
+unfoldable pub blockEndOf : List ℕ → ℕ → Reply ℕ
+blockEndOf s at =
     need (unitCount (groupAt s at .count)) 5 (at + groupCount .place)
     (headsOf s (at + groupLength) (groupAt s at .count))
 
 -- where a record ends whose head was read; a whole block is one extent
 unfoldable pub wholeOf : List ℕ → ℕ → Head → Reply ℕ
-wholeOf s at head = pick (eqb (head .kind) groupKind) (blockOf s at) (is (head .end))
-
--- the end record closes the day
-abbrev pub stateAfter : ℕ → State
-stateAfter kind = pick (eqb kind endKind) Closed Open
+wholeOf s at head = pick (isBlock (head .role)) (blockEndOf s at) (is (head .end))
 
 -- the record that is to begin at a place: its order by the table, and its extent
 unfoldable pub recordOf : List ℕ → State → ℕ → Reply Found
 recordOf s state at =
     next (headIn s at state) λ head.
     next (wholeOf s at head) λ end.
-    is (extent (record { start = at; end = end; after = stateAfter (head .kind) }))
+    is (extent (record { start = at; end = end; after = stateAfter (head .role) }))
 
 -- a place past the end counts as the end
 abbrev pub placeIn : List ℕ → ℕ → ℕ

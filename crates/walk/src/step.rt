@@ -1,19 +1,19 @@
 // The walk by slice and place: the next record's extent.
 ghost use mathlib.Core.Path.{_≡_};
+ghost use mathlib.Core.Bool.{true};
 ghost use Prim.Native.Nat.{_+_, _≤_};
 ghost use lib.ListN.{length};
 ghost use Rattle.terms.specs.Refusals.{answer};
-ghost use Rattle.records.specs.Layouts.{groupKind};
+ghost use Rattle.records.specs.Layouts.{groupLength};
+ghost use Rattle.walk.specs.Table.{isBlock};
 ghost use Rattle.walk.specs.Answers.{stepReply};
-ghost use Rattle.walk.specs.Walk.{headsOf, blockOf, stateAfter, wholeOf, recordOf, stepOf};
+ghost use Rattle.walk.specs.Walk.{headsOf, blockEndOf, wholeOf, recordOf, stepOf};
 use crate::table::Head;
 use crate::table::HeadAnswer;
 use crate::table::State;
 use crate::table::head_in;
-use records::end::EndRecord;
 use records::group::GroupRecord;
-use records::head::head;
-use records::unit::UnitRecord;
+use records::units::unit_head;
 use terms::refusal::Answer;
 use terms::refusal::Refusal;
 use terms::refusal::Why;
@@ -31,15 +31,6 @@ pub enum Step {
     Done,
 }
 
-fn state_after(kind: u8) -> State
-    ensures { λ r. ⌜ r ≡ stateAfter kind ⌝ }
-{
-    if kind == EndRecord::KIND {
-        return State::Closed;
-    }
-    State::Open
-}
-
 // Where so many units from a place on end: 2 and 1 of each.
 fn unit_heads(s: &[u8], at: usize, count: usize) -> Answer
     ensures { λ r. ⌜ answer r ≡ headsOf (now (s .entry)) at count ⌝ }
@@ -47,7 +38,7 @@ fn unit_heads(s: &[u8], at: usize, count: usize) -> Answer
     let mut here = at;
     let mut i = 0;
     while i < count {
-        let h = head(s, here, UnitRecord::KIND, UnitRecord::LEN);
+        let h = unit_head(s, here);
         let Answer::Is(end) = h else {
             return h;
         };
@@ -59,32 +50,27 @@ fn unit_heads(s: &[u8], at: usize, count: usize) -> Answer
 
 // Where the block ends whose group record is there whole: of the fields only 5, then the units.
 fn block_at(s: &[u8], at: usize) -> Answer
-    requires { ⌜ at + 10 ≤ length (now s) ⌝ }
-    ensures { λ r. ⌜ answer r ≡ blockOf (now (s .entry)) at ⌝ }
+    requires { ⌜ at + groupLength ≤ length (now s) ⌝ }
+    ensures { λ r. ⌜ answer r ≡ blockEndOf (now (s .entry)) at ⌝ }
 {
     let place = at + GroupRecord::COUNT;
     let count = s[place];
-    if count == 0 {
-        return Answer::Refused(Refusal {
-            why: Why::UnitCount,
-            place,
-        });
+    if GroupRecord::permits(count as usize) {
+        return unit_heads(s, at + GroupRecord::LEN, count as usize);
     }
-    if GroupRecord::UNITS < count {
-        return Answer::Refused(Refusal {
-            why: Why::UnitCount,
-            place,
-        });
-    }
-    unit_heads(s, at + GroupRecord::LEN, count as usize)
+    Answer::Refused(Refusal {
+        why: Why::UnitCount,
+        place,
+    })
 }
 
-// Where a record ends whose head was read: a group record takes its units along.
+// Where a record ends whose head was read: a block takes its units along.
 fn whole(s: &[u8], at: usize, head: Head) -> Answer
-    requires { ⌜ (head .kind ≡ groupKind → at + 10 ≤ length (now s)) ⌝ }
+    requires { ⌜ (isBlock (head .role) ≡ true → at + groupLength ≤ length (now s)) ⌝ }
     ensures { λ r. ⌜ answer r ≡ wholeOf (now (s .entry)) at head ⌝ }
 {
-    if head.kind == GroupRecord::KIND {
+    let role = head.role;
+    if role.is_block() {
         return block_at(s, at);
     }
     Answer::Is(head.end)
@@ -101,10 +87,11 @@ fn record_at(s: &[u8], state: State, at: usize) -> Step
     let Answer::Is(end) = w else {
         return Step::Refused(w.refusal());
     };
+    let role = head.role;
     Step::Record(Extent {
         start: at,
         end,
-        after: state_after(head.kind),
+        after: role.state_after(),
     })
 }
 

@@ -1,18 +1,25 @@
-// One table gives, for each state and kind, whether the record may come, and how long its body is.
+// One table gives, for each state and kind, whether the record may come, what it is to the day, and how long its body is.
 ghost use mathlib.Core.Path.{_≡_};
-ghost use Rattle.walk.specs.Table.{isClosed, rowOf, bodyOf, headIn};
+ghost use Rattle.walk.specs.Table.{bodyOf, roleOf, isBlock, stateAfter, isClosed, rowOf, headIn, blockHeadIn};
 ghost use Rattle.walk.specs.Answers.{headReply, headRefusal};
 use records::day::DayRecord;
 use records::end::EndRecord;
-use records::field::no_refusal;
 use records::group::GroupRecord;
 use terms::refusal::Refusal;
 use terms::refusal::Why;
+use terms::refusal::no_refusal;
 
 pub enum State {
     Fresh,
     Open,
     Closed,
+}
+
+// What a record is to a day.
+pub enum Role {
+    Opens,
+    Block,
+    Closes,
 }
 
 // The kinds that the table has a column for; no record of a higher kind may come.
@@ -31,6 +38,42 @@ const BODIES: [[usize; 16]; 3] = [
     [0, 0, GROUP, 0, 0, 0, 0, 0, 0, 0, 0, 0, 0, 0, 0, END],
     [0, 0, 0, 0, 0, 0, 0, 0, 0, 0, 0, 0, 0, 0, 0, 0],
 ];
+
+// What a record of a kind that the table takes is to the day.
+pub fn role_of(kind: u8) -> Role
+    ensures { λ r. ⌜ r ≡ roleOf kind ⌝ }
+{
+    if kind == DayRecord::KIND {
+        return Role::Opens;
+    }
+    if kind == GroupRecord::KIND {
+        return Role::Block;
+    }
+    Role::Closes
+}
+
+impl Role {
+    pub fn is_block(self) -> bool
+        ensures { λ r. ⌜ r ≡ isBlock self ⌝ }
+    {
+        match self {
+            Role::Opens => false,
+            Role::Block => true,
+            Role::Closes => false,
+        }
+    }
+
+    // The state of a day after such a record.
+    pub fn state_after(self) -> State
+        ensures { λ r. ⌜ r ≡ stateAfter self ⌝ }
+    {
+        match self {
+            Role::Opens => State::Open,
+            Role::Block => State::Open,
+            Role::Closes => State::Closed,
+        }
+    }
+}
 
 impl State {
     fn row(self) -> usize
@@ -66,9 +109,9 @@ impl State {
     }
 }
 
-// The kind of a record whose head was read, and where the record ends.
+// What a record whose head was read is to the day, and where the record ends.
 pub struct Head {
-    pub kind: u8,
+    pub role: Role,
     pub end: usize,
 }
 
@@ -115,7 +158,28 @@ pub fn head_in(s: &[u8], at: usize, state: State) -> HeadAnswer
         });
     }
     HeadAnswer::Is(Head {
-        kind,
+        role: role_of(kind),
         end: at + (1 + body),
     })
+}
+
+// The head of the block that comes at a place: 1 if nothing is there, 2 for any other record, 1.
+pub fn block_head(s: &[u8], at: usize, state: State) -> HeadAnswer
+    ensures { λ r. ⌜ headReply r ≡ blockHeadIn (now (s .entry)) at state ⌝ }
+{
+    let n = s.len();
+    if n <= at {
+        return HeadAnswer::Refused(Refusal {
+            why: Why::CutShort,
+            place: n,
+        });
+    }
+    let role = role_of(s[at]);
+    if !role.is_block() {
+        return HeadAnswer::Refused(Refusal {
+            why: Why::Kind,
+            place: at,
+        });
+    }
+    head_in(s, at, state)
 }

@@ -1,16 +1,21 @@
 -- What the block writer accepted has passed each of its tests in turn.
-use Prim.Native.Nat.{ℕ, _≤_, _<_}
+use Prim.Native.Nat.{ℕ, zero, suc, _+_, _≤_, _<_}
 use mathlib.Core.Path.{_≡_}
 use mathlib.Core.Bool.{true, and-eq-true-iff}
 use mathlib.Core.List.{List, [], _∷_}
 use native.Mathlib.Omega.{arith}
+use borrow.Author.Needs.{needs}
 use borrow.Author.Tests.{ltb-true, leb-true, eqb-true}
 use Rattle.terms.specs.Reply.{is}
+use Rattle.terms.specs.Refusals.{passed, firstFault}
+use Rattle.terms.specs.Checks.{mostUnits}
+use Rattle.terms.specs.declared.refusal.Checked.{Checked}
 use Rattle.terms.specs.declared.refusal.Checked.the-variants.{Fine}
 use Rattle.terms.proofs.Replies.{need-is, next-is}
-use Rattle.writers.specs.Columns.{Columns, count, same, even, unitChecks, Long}
-use Rattle.writers.specs.Writing.{roomFor, groupChecks, blockLength, writeBlockOf}
-use Rattle.writers.proofs.Scanned.{scan-fine}
+use Rattle.terms.proofs.Scan.{all-fine}
+use Rattle.writers.specs.Columns.{Columns, count, same, even, rowChecks}
+use Rattle.writers.specs.Writing.{roomFor, groupChecks, blockLength, unitsChecked, writeBlockOf}
+use Rattle.writers.specs.Inner.{Long}
 
 -- each length of a list of the same lengths
 abbrev All : ℕ → List ℕ → Type 0
@@ -26,7 +31,7 @@ alike n (m ∷ ms) e =
     (omega arith, alike n ms (p .1))
 
 -- columns of equal length are long enough for their count
-pub long : (c : Columns) → even c ≡ true → count c ≤ 64 → Long (count c) c
+pub long : (c : Columns) → even c ≡ true → count c ≤ mostUnits → Long (count c) c
 unfolding even
 long c e h =
     let a = alike _ _ e in
@@ -43,40 +48,56 @@ long c e h =
       made = a .1 .1 .1 .1 .1 .1 .1 .0;
     }
 
+-- and for a unit among them
+pub long-below : (c : Columns) {units i : ℕ} → Long units c → i < units → Long (i + 1) c
+long-below c l h = search needs
+
 -- the group's own fields
 pub record Grouped (quarter units : ℕ) : Type 0 where
   pub early : quarter < 100
   pub some : 1 ≤ units
-  pub few : units ≤ 64
+  pub few : units ≤ mostUnits
 
 pub grouped : (quarter units : ℕ) {n : ℕ} → groupChecks quarter units ≡ is n → Grouped quarter units
 unfolding groupChecks
 grouped quarter units e =
     let a = need-is _ _ _ _ e in
     let b = and-eq-true-iff _ _ .0 (need-is _ _ _ _ (a .1) .0) in
-    record { early = ltb-true quarter 100 (a .0); some = leb-true 1 units (b .0); few = leb-true units 64 (b .1) }
+    record { early = ltb-true quarter 100 (a .0); some = leb-true 1 units (b .0); few = leb-true units mostUnits (b .1) }
 
 -- the whole block
 pub record Accepted (quarter : ℕ) (c : Columns) (room n : ℕ) : Type 0 where
   pub evenly : even c ≡ true
   pub group : Grouped quarter (count c)
-  pub fine : (i : ℕ) → i < count c → unitChecks c i ≡ Fine
-  pub bytes : n ≡ blockLength (count c)
+  pub fine : (i : ℕ) → i < count c → rowChecks c i ≡ Fine
+  pub bytes : n ≡ blockLength c
   pub enough : n ≤ room
 
 pub accepted : (quarter : ℕ) (c : Columns) (room : ℕ) {n : ℕ} → writeBlockOf quarter c room ≡ is n → Accepted quarter c room n
-unfolding writeBlockOf roomFor
+unfolding writeBlockOf unitsChecked roomFor
 accepted quarter c room {n} e =
-    let a = need-is _ _ _ _ e in
-    let b = next-is _ _ (a .1) in
-    let d = next-is _ _ (b .1 .1) in
-    let f = need-is _ _ _ _ (d .1 .1) in
-    let g = leb-true (blockLength (count c)) room (f .0) in
-    let h : n ≡ blockLength (count c) = cc in
+    let evenly = need-is _ _ _ _ e in
+    let group = next-is _ _ (evenly .1) in
+    let units = next-is _ _ (group .1 .1) in
+    let each = next-is _ _ (units .1 .0) in
+    let fits = need-is _ _ _ _ (units .1 .1) in
+    let enough = leb-true (units .0) room (fits .0) in
+    let length : blockLength c ≡ units .0 = cc (each .1 .1) in
+    let told : units .0 ≡ n = cc (fits .1) in
     record {
-      evenly = a .0;
-      group = grouped quarter (count c) (b .1 .0);
-      fine = λ i l. scan-fine (unitChecks c) 0 (count c) (d .1 .0) i (omega arith) (omega arith);
-      bytes = h;
+      evenly = evenly .0;
+      group = grouped quarter (count c) (group .1 .0);
+      fine = λ i l. all-fine (rowChecks c) 0 (count c) (each .1 .0) i (omega arith) (omega arith);
+      bytes = omega arith;
       enough = omega arith;
     }
+
+-- units that are all fine are counted
+pub fine-scan : (checks : ℕ → Checked) (i left : ℕ) → ((j : ℕ) → i ≤ j → j < i + left → checks j ≡ Fine) → firstFault checks i left ≡ is (i + left)
+unfolding firstFault passed
+fine-scan checks i zero h =
+    let e : i + 0 ≡ i = omega arith in
+    rw e
+fine-scan checks i (suc left) h =
+    let e : i + suc left ≡ suc i + left = omega arith in
+    rw (h i (omega arith) (omega arith), e) (fine-scan checks (suc i) left (λ j l m. h j (omega arith) (omega arith)))

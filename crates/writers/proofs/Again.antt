@@ -13,7 +13,7 @@ use Rattle.terms.specs.declared.refusal.Answer.{Answer}
 use Rattle.terms.proofs.Replies.{next-is}
 use Rattle.records.specs.declared.day.DayRecord.{DayRecord}
 use Rattle.records.specs.declared.end.EndRecord.{EndRecord}
-use Rattle.records.specs.Layouts.{dayAt, dayBytes, endAt, endBytes}
+use Rattle.records.specs.Layouts.{dayKind, dayLength, dayQuarters, dayAt, dayBytes, endKind, endLength, endGroups, endAt, endBytes}
 use Rattle.records.specs.Reading.{permitted, dayFieldsOf, dayOf, endFieldsOf, endOf}
 use Rattle.records.proofs.Fields.{field-in}
 use Rattle.records.proofs.Heads.{headed}
@@ -30,20 +30,20 @@ written bytes entry {r} {exit} n s w q l e =
     (w .replied ∙ q, rw x (take-at bytes (drop n entry) n l ∙ e))
 
 module _ (s : List ℕ) (small : Bytes s) {entry exit : List ℕ} {r : Answer} where
-  pub day-again : (d : DayRecord) → dayOf s ≡ is d → 12 ≤ length entry → DayWritten d entry r exit → (answer r ≡ is 12) × (take 12 exit ≡ take 12 s)
+  pub day-again : (d : DayRecord) → dayOf s ≡ is d → dayLength ≤ length entry → DayWritten d entry r exit → (answer r ≡ is dayLength) × (take dayLength exit ≡ take dayLength s)
   unfolding dayOf dayFieldsOf writeDayOf roomFor need
   day-again d e h w =
       let a = next-is _ _ e in
-      let b = field-in (permitted (dayAt s 0 .quarters)) 3 3 (dayAt s 0) (sym (a .1 .1)) in
+      let b = field-in (permitted (dayAt s 0 .quarters)) 3 (dayQuarters .place) (dayAt s 0) (sym (a .1 .1)) in
       let p = rw (← b .1) at (b .0) in
-      let l = rw (← b .1) at (day-laid s small 0 (headed s 0 1 12 (a .1 .0))) in
-      written (dayBytes d) entry 12 s w (simp (p, le-leb 12 (length entry) h)) (length-day d) l
+      let l = rw (← b .1) at (day-laid s small 0 (headed s 0 dayKind dayLength (a .1 .0))) in
+      written (dayBytes d) entry dayLength s w (simp (p, le-leb dayLength (length entry) h)) (length-day d) l
 
-  pub end-again : (x : EndRecord) (groups : ℕ) → endOf s groups ≡ is x → 5 ≤ length entry → EndWritten x entry r exit
-      → (answer r ≡ is 5) × (take 5 exit ≡ take 5 s)
+  pub end-again : (x : EndRecord) (groups : ℕ) → endOf s groups ≡ is x → endLength ≤ length entry → EndWritten x entry r exit
+      → (answer r ≡ is endLength) × (take endLength exit ≡ take endLength s)
   unfolding endOf endFieldsOf writeEndOf roomFor need
   end-again x groups e h w =
       let a = next-is _ _ e in
-      let b = field-in (eqb (endAt s 0 .groups) groups) 14 1 (endAt s 0) (sym (a .1 .1)) in
-      let l = rw (← b .1) at (end-laid s small 0 (headed s 0 15 5 (a .1 .0))) in
-      written (endBytes x) entry 5 s w (simp (le-leb 5 (length entry) h)) (length-end x) l
+      let b = field-in (eqb (endAt s 0 .groups) groups) 14 (endGroups .place) (endAt s 0) (sym (a .1 .1)) in
+      let l = rw (← b .1) at (end-laid s small 0 (headed s 0 endKind endLength (a .1 .0))) in
+      written (endBytes x) entry endLength s w (simp (le-leb endLength (length entry) h)) (length-end x) l

@@ -1,15 +1,15 @@
 -- What a writer accepted, read by the layouts, gives the values that it was given, and a day that takes the group and the ages accepts it.
 use Prim.Native.Nat.{ℕ, zero, suc, _+_, _*_, _<_}
-use mathlib.Core.Path.{_≡_, sym, ap, _∙_}
+use mathlib.Core.Path.{_≡_, refl, sym, ap, _∙_}
 use mathlib.Core.Bool.{true}
 use mathlib.Core.List.{List, _++_, append-assoc}
 use native.Mathlib.Omega.{arith}
 use lib.ListN.{length, drop}
-use lib.Seq.{drop-drop, drop-at}
 use borrow.Author.Tests.{le-leb}
 use Rattle.numbers.proofs.Integers.{zarith}
 use Rattle.terms.specs.Reply.{Reply, is, next}
 use Rattle.terms.specs.Refusals.{answer, check}
+use Rattle.terms.specs.Checks.{mostUnits, unitCount}
 use Rattle.terms.specs.declared.refusal.Answer.{Answer}
 use Rattle.terms.specs.declared.refusal.Checked.the-variants.{Fine}
 use Rattle.terms.proofs.Replies.{need-is}
@@ -19,18 +19,18 @@ use Rattle.records.specs.declared.unit.UnitRecord.{UnitRecord}
 use Rattle.records.specs.declared.end.EndRecord.{EndRecord}
 use Rattle.records.specs.declared.group_result.GroupResult.{GroupResult}
 use Rattle.records.specs.declared.key.Last.{Last}
-use Rattle.records.specs.Layouts.{dayAt, dayBytes, groupBytes, unitBytes, endAt, endBytes}
-use Rattle.records.specs.Layouts.{groupResultAt, groupResultBytes, unitResultAt, unitResultBytes}
-use Rattle.records.specs.Reading.{dayOf, groupOf, endOf, also, unitFaults, unitsOf, unitCount, unitIn}
+use Rattle.records.specs.Layouts.{dayAt, dayBytes, groupLength, groupBytes, unitBytes, endAt, endBytes}
+use Rattle.records.specs.Layouts.{groupResultLength, groupResultAt, groupResultBytes, unitResultLength, unitResultAt, unitResultBytes}
+use Rattle.records.specs.Reading.{dayOf, groupOf, endOf, also, unitFaults, unitsOf, placeFrom, unitPlace, unitIn}
 use Rattle.records.proofs.Accepted.{Sound, sound}
 use Rattle.writers.specs.Results.{Results, resultOf, unitResultsBytes, resultBytes}
-use Rattle.writers.specs.Columns.{Columns, rowOf, count, floorAt, unitChecks}
-use Rattle.writers.specs.Writing.{Wrote, laid, writeDayOf, DayWritten, EndWritten, groupOver, unitsBytes, blockBytes, blockLength, writeBlockOf, BlockWritten}
-use Rattle.writers.specs.Trips.{Values, Joins, Fresh}
+use Rattle.writers.specs.Columns.{Columns, rowOf, count, floorAt, rowChecks}
+use Rattle.writers.specs.Writing.{Wrote, laid, writeDayOf, DayWritten, EndWritten, groupOver, unitsEnd, unitsBytes, blockBytes, blockLength, writeBlockOf, BlockWritten}
+use Rattle.writers.specs.Trips.{Values, Joins, Fresh, HeldResults}
 use Rattle.writers.proofs.Runs.{run-at}
-use Rattle.writers.proofs.Lengths.{length-group, length-unit, length-group-result, length-unit-result}
+use Rattle.writers.proofs.Lengths.{length-group, length-units, length-group-result, length-results}
 use Rattle.writers.proofs.Accepted.{Accepted, accepted}
-use Rattle.writers.proofs.Fields.{HeldUnit, HeldGroupResult, HeldUnitResult, day-read, group-read, unit-read, end-read, group-result-read, unit-result-read}
+use Rattle.writers.proofs.Fields.{HeldUnit, day-read, group-read, unit-read, end-read, group-result-read, unit-result-read}
 use Rattle.writers.proofs.Readers.{day-reads, group-reads, unit-reads, end-reads}
 
 -- the room begins with what was written
@@ -64,40 +64,39 @@ held s =
     record { n = omega zarith; pc = omega zarith; step-down = omega zarith; step-up = omega zarith }
 
 module _ (g : GroupRecord) (c : Columns) (rest s : List ℕ) (so : s ≡ blockBytes g c ++ rest) where
-  -- each unit's record stands in its place
-  unit-stands : (i : ℕ) → i < g .count → (more : List ℕ) × (drop (10 + 26 * i) s ≡ unitBytes (rowOf c i) ++ more)
+  -- each unit's record stands where the one before ends
+  unit-stands : (i : ℕ) → i < count c → (more : List ℕ) × (drop (unitsEnd c i) s ≡ unitBytes (rowOf c i) ++ more)
   unfolding blockBytes unitsBytes
   unit-stands i h =
-      let f = run-at (λ (k : ℕ). unitBytes (rowOf c k)) 26 (λ k. length-unit (rowOf c k)) (g .count) rest i h in
-      let u = unitsBytes c (g .count) in (
-        f .0,
-        sym (drop-drop (26 * i) 10 s)
-            ∙ ap (drop (26 * i)) (ap (drop 10) (so ∙ append-assoc (groupBytes g) u rest) ∙ drop-at (groupBytes g) (u ++ rest) 10 (length-group g))
-            ∙ f .1,
-      )
+      let f = run-at (λ (k : ℕ). unitBytes (rowOf c k)) (groupBytes g) (count c) rest i h in
+      let e : length (groupBytes g) + length (unitsBytes c i) ≡ unitsEnd c i = rw (length-group g) (length-units c i) in
+      (f .0, rw (← e, so, append-assoc (groupBytes g) (unitsBytes c (count c)) rest) (f .1))
 
-  module _ (sounds : (i : ℕ) → i < g .count → Sound (rowOf c i)) where
-    unit-in : (i : ℕ) → i < g .count → unitIn s i ≡ rowOf c i
+  place-is : (i : ℕ) → unitPlace s i ≡ unitsEnd c i
+  unfolding placeFrom unitsEnd
+  place-is zero = refl
+  place-is (suc i) = omega (arith, place-is i)
+
+  module _ (sounds : (i : ℕ) → i < count c → Sound (rowOf c i)) where
+    unit-in : (i : ℕ) → i < count c → unitIn s i ≡ rowOf c i
     unit-in i h =
         let p = unit-stands i h in
-        unit-read s (10 + 26 * i) (p .0) (rowOf c i) (held (sounds i h)) (p .1)
+        rw (place-is i) (unit-read s (unitsEnd c i) (p .0) (rowOf c i) (held (sounds i h)) (p .1))
 
-    module _ (run limit : ℕ) (fine : (i : ℕ) → i < g .count → unitFaults (rowOf c i) (floorAt c i) run limit ≡ Fine) where
+    module _ (run limit : ℕ) (fine : (i : ℕ) → i < count c → unitFaults (rowOf c i) (floorAt c i) run limit ≡ Fine) where
       -- from unit i on
-      units-in : (left i : ℕ) → i + left ≡ g .count → unitsOf s (10 + 26 * i) (floorAt c i) run limit left ≡ is (blockLength (g .count))
-      unfolding unitsOf next floorAt rowOf
+      units-in : (left i : ℕ) → i + left ≡ count c → unitsOf s (unitsEnd c i) (floorAt c i) run limit left ≡ is (blockLength c)
+      unfolding unitsOf next floorAt unitsEnd
       units-in zero i e =
-          let l : 10 + 26 * i ≡ blockLength (g .count) = omega arith in
-          ap is l
+          let l : i ≡ count c = omega arith in
+          ap (λ (k : ℕ). is (unitsEnd c k)) l
       units-in (suc left) i e =
-          let h : i < g .count = omega arith in
+          let h : i < count c = omega arith in
           let p = unit-stands i h in
-          let u = unit-reads s (10 + 26 * i) (p .0) (rowOf c i) (floorAt c i) run limit (p .1) (held (sounds i h)) (fine i h) in
-          let on : 10 + 26 * i + 26 ≡ 10 + 26 * suc i = omega arith in
-          rw (u, on) (units-in left (suc i) (omega arith))
+          rw (unit-reads s (unitsEnd c i) (p .0) (rowOf c i) (floorAt c i) run limit (p .1) (held (sounds i h)) (fine i h)) (units-in left (suc i) (omega arith))
 
 -- past the other checks, the age decides
-aged-fine : (c : Columns) (day : DayRecord) (i : ℕ) → i < count c → unitChecks c i ≡ Fine → Fresh c day
+aged-fine : (c : Columns) (day : DayRecord) (i : ℕ) → i < count c → rowChecks c i ≡ Fine → Fresh c day
     → unitFaults (rowOf c i) (floorAt c i) (day .run) (day .«margin_limit») ≡ Fine
 unfolding unitFaults also check
 aged-fine c day i h e f = simp (e, f .each i h)
@@ -120,37 +119,34 @@ module _ (brp zone quarter made : ℕ) (c : Columns) {entry exit : List ℕ} {r 
   unfolding blockBytes
   group-front = in-room .1 ∙ append-assoc (groupBytes group) (unitsBytes c (count c)) (drop n entry)
 
-  pub block-back : Values group c exit
+  pub block-back : Values (groupOver brp zone quarter made c) c exit
   block-back =
       record {
         group = group-read exit 0 (unitsBytes c (count c) ++ drop n entry) group group-front;
         unit = unit-in group c (drop n entry) exit (in-room .1) sounds;
       }
 
-  pub block-taken : (day : DayRecord) (last : Last) → Joins group day last → Fresh c day
-      → (groupOf exit day last ≡ is group) × (unitsOf exit 10 0 (day .run) (day .«margin_limit») (count c) ≡ is n)
-  unfolding floorAt
+  pub block-taken : (day : DayRecord) (last : Last) → Joins (groupOver brp zone quarter made c) day last → Fresh c day
+      → (groupOf exit day last ≡ is (groupOver brp zone quarter made c)) × (unitsOf exit groupLength 0 (day .run) (day .«margin_limit») (count c) ≡ is n)
+  unfolding floorAt unitsEnd
   block-taken day last j k =
       let few = le-leb 1 (count c) (took .group .some) in
-      let many = le-leb (count c) 64 (took .group .few) in
+      let many = le-leb (count c) mostUnits (took .group .few) in
       let counted : unitCount (count c) ≡ true = rw (few, many) in
       let all = units-in group c (drop n entry) exit (in-room .1) sounds (day .run) (day .«margin_limit») (λ i h. aged-fine c day i h (took .fine i h) k) (count c) 0 (omega arith) in
       (group-reads exit (unitsBytes c (count c) ++ drop n entry) group day last group-front counted j, all ∙ ap is (sym (took .bytes)))
 
--- ---- the result of a block, where each signed value is one of 32 bits
-pub record HeldResults (g : GroupResult) (r : Results) : Type 0 where
-  pub group : HeldGroupResult g
-  pub unit : (i : ℕ) → i < g .count → HeldUnitResult (resultOf r i)
-
+-- ---- the result of a block
 module _ (g : GroupResult) (r : Results) (rest s : List ℕ) (so : s ≡ resultBytes g r ++ rest) (h : HeldResults g r) where
-  pub results-back : (groupResultAt s 0 ≡ g) × ((i : ℕ) → i < g .count → unitResultAt s (27 + 20 * i) ≡ resultOf r i)
+  pub results-back : (groupResultAt s 0 ≡ g) × ((i : ℕ) → i < g .count → unitResultAt s (groupResultLength + unitResultLength * i) ≡ resultOf r i)
   unfolding resultBytes unitResultsBytes
   results-back =
       let u = unitResultsBytes r (g .count) in
       let e = so ∙ append-assoc (groupResultBytes g) u rest in (
         group-result-read s 0 (u ++ rest) g (h .group) e,
         λ i l.
-            let f = run-at (λ (k : ℕ). unitResultBytes (resultOf r k)) 20 (λ k. length-unit-result (resultOf r k)) (g .count) rest i l in
-            unit-result-read s (27 + 20 * i) (f .0) (resultOf r i) (h .unit i l)
-            (sym (drop-drop (20 * i) 27 s) ∙ ap (drop (20 * i)) (ap (drop 27) e ∙ drop-at (groupResultBytes g) (u ++ rest) 27 (length-group-result g)) ∙ f .1),
+            let f = run-at (λ (k : ℕ). unitResultBytes (resultOf r k)) (groupResultBytes g) (g .count) rest i l in
+            let at : length (groupResultBytes g) + length (unitResultsBytes r i) ≡ groupResultLength + unitResultLength * i =
+            rw (length-group-result g, length-results r i) in
+            unit-result-read s (groupResultLength + unitResultLength * i) (f .0) (resultOf r i) (h .unit i l) (rw (← at, e) (f .1)),
       )

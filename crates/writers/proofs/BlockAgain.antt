@@ -1,11 +1,11 @@
 -- A block that a reader accepted, written again from its values as columns, gives the same bytes: each unit is a row of the columns, and passes.
-use Prim.Native.Nat.{ℕ, zero, suc, _+_, _*_, _≤_, _<_}
+use Prim.Native.Nat.{ℕ, zero, suc, _+_, _≤_, _<_}
 use mathlib.Core.Path.{_≡_, refl, sym, ap, _∙_}
 use mathlib.Core.Bool.{Bool, true, false, _||_}
 use mathlib.Core.List.{List}
 use native.Mathlib.Decide.{decLt}
 use native.Mathlib.Omega.{arith}
-use lib.ListN.{length, take}
+use lib.ListN.{length, take, drop}
 use lib.Seq.{take-add}
 use lib.Dec.{eqb}
 use borrow.Author.Tests.{eqb-true, eq-eqb, le-leb, lt-ltb, ltb-true}
@@ -13,6 +13,7 @@ use Rattle.numbers.specs.Bytes.{Bytes}
 use Rattle.numbers.proofs.Columns.{column-length, column-at}
 use Rattle.terms.specs.Reply.{is, need, next}
 use Rattle.terms.specs.Refusals.{answer}
+use Rattle.terms.specs.Checks.{unitCount}
 use Rattle.terms.specs.declared.refusal.Answer.{Answer}
 use Rattle.terms.specs.declared.refusal.Checked.the-variants.{Fine}
 use Rattle.terms.proofs.Replies.{need-is, next-is}
@@ -20,18 +21,18 @@ use Rattle.records.specs.declared.day.DayRecord.{DayRecord}
 use Rattle.records.specs.declared.group.GroupRecord.{GroupRecord}
 use Rattle.records.specs.declared.unit.UnitRecord.{UnitRecord}
 use Rattle.records.specs.declared.key.Last.{Last}
-use Rattle.records.specs.Layouts.{groupAt, unitBytes}
-use Rattle.records.specs.Reading.{aged, permitted, groupFieldsOf, groupOf, valueFaults, unitFaults, unitOf, unitsOf, unitCount, unitIn}
+use Rattle.records.specs.Layouts.{groupKind, groupLength, groupMade, groupAt, unitKind, unitLength, unitBytes}
+use Rattle.records.specs.Reading.{aged, permitted, groupFieldsOf, groupOf, valueFaults, unitFaults, unitOf, unitsOf, placeFrom, unitPlace, unitIn}
 use Rattle.records.proofs.Accepted.{unit-is, block-end}
 use Rattle.records.proofs.Checks.{also-fine}
 use Rattle.records.proofs.Fields.{field-in}
 use Rattle.records.proofs.Heads.{Headed, headed}
-use Rattle.writers.specs.Columns.{Columns, rowOf, count, same, even, floorAt, unitChecks}
-use Rattle.writers.specs.Writing.{roomFor, groupChecks, blockLength, writeBlockOf, groupOver, unitsBytes, blockBytes, BlockWritten}
+use Rattle.writers.specs.Columns.{Columns, rowOf, count, same, even, floorAt, rowChecks}
+use Rattle.writers.specs.Writing.{roomFor, groupChecks, unitsEnd, unitsChecked, blockLength, writeBlockOf, groupOver, unitsBytes, blockBytes, BlockWritten}
 use Rattle.writers.specs.Trips.{columnsIn}
 use Rattle.writers.proofs.Runs.{run-again}
-use Rattle.writers.proofs.Lengths.{length-block}
-use Rattle.writers.proofs.Scanned.{fine-scan}
+use Rattle.writers.proofs.Lengths.{length-unit, length-units, length-block}
+use Rattle.writers.proofs.Accepted.{fine-scan}
 use Rattle.writers.proofs.Fields.{group-laid, unit-laid}
 use Rattle.writers.proofs.Again.{written}
 
@@ -42,30 +43,23 @@ floorIn s (suc i) = unitIn s i .number + 1
 
 -- a unit that the reader passed
 record Read (s : List ℕ) (i : ℕ) : Type 0 where
-  pub head : Headed s (10 + 26 * i) 3 26
+  pub head : Headed s (unitPlace s i) unitKind unitLength
   pub fine : valueFaults (unitIn s i) (floorIn s i) ≡ Fine
 
 module _ (s : List ℕ) (run limit : ℕ) where
-  read-one : (i : ℕ) {u : UnitRecord} → unitOf s (10 + 26 * i) (floorIn s i) run limit ≡ is u → Read s i
+  read-one : (i : ℕ) {u : UnitRecord} → unitOf s (unitPlace s i) (floorIn s i) run limit ≡ is u → Read s i
   unfolding unitOf unitFaults
   read-one i e =
-      let p = unit-is s (10 + 26 * i) (floorIn s i) run limit e in
-      record { head = headed s (10 + 26 * i) 3 26 (next-is _ _ e .1 .0); fine = also-fine _ _ (p .0) .0 }
+      let p = unit-is s (unitPlace s i) (floorIn s i) run limit e in
+      record { head = headed s (unitPlace s i) unitKind unitLength (next-is _ _ e .1 .0); fine = also-fine _ _ (p .0) .0 }
 
-  next-one : (i left : ℕ) {n : ℕ} (u : UnitRecord) → u ≡ unitIn s i → unitsOf s (10 + 26 * i + 26) (u .number + 1) run limit left ≡ is n
-      → unitsOf s (10 + 26 * suc i) (floorIn s (suc i)) run limit left ≡ is n
-  unfolding floorIn
-  next-one i left u e h =
-      let on : 10 + 26 * suc i ≡ 10 + 26 * i + 26 = omega arith in
-      rw (on, ← e) h
-
-  read-all : (i left : ℕ) {n : ℕ} → unitsOf s (10 + 26 * i) (floorIn s i) run limit left ≡ is n → (j : ℕ) → i ≤ j → j < i + left → Read s j
-  unfolding unitsOf
+  read-all : (i left : ℕ) {n : ℕ} → unitsOf s (unitPlace s i) (floorIn s i) run limit left ≡ is n → (j : ℕ) → i ≤ j → j < i + left → Read s j
+  unfolding unitsOf placeFrom floorIn
   read-all i zero e j l h = absurd (omega arith)
   read-all i (suc left) e j l h =
       let a = next-is _ _ e in
-      let u = unit-is s (10 + 26 * i) (floorIn s i) run limit (a .1 .0) .1 in
-      go (read-one i (a .1 .0)) (read-all (suc i) left (next-one i left (a .0) u (a .1 .1)) j) (decLt i j)
+      let u = unit-is s (unitPlace s i) (floorIn s i) run limit (a .1 .0) .1 in
+      go (read-one i (a .1 .0)) (read-all (suc i) left (rw u at (a .1 .1)) j) (decLt i j)
     where
       go : Read s i → (suc i ≤ j → j < suc i + left → Read s j) → Dec (i < j) → Read s j
       go here later (yes m) = later m (omega arith)
@@ -82,9 +76,12 @@ module _ (s : List ℕ) (units : ℕ) where
   floor-in : (i : ℕ) → i < units → floorAt (columnsIn s units) i ≡ floorIn s i
   unfolding floorAt floorIn
   floor-in zero h = refl
-  floor-in (suc i) h =
-      let l : i < units = omega arith in
-      simp column-at
+  floor-in (suc i) h = rw (row-in i (omega arith))
+
+  end-in : (i : ℕ) → unitsEnd (columnsIn s units) i ≡ unitPlace s i
+  unfolding unitsEnd placeFrom
+  end-in zero = refl
+  end-in (suc i) = omega (arith, end-in i)
 
   even-in : even (columnsIn s units) ≡ true
   unfolding even same
@@ -92,7 +89,7 @@ module _ (s : List ℕ) (units : ℕ) where
 
 -- ---- the whole block
 record Group (s : List ℕ) (day : DayRecord) (g : GroupRecord) : Type 0 where
-  pub head : Headed s 0 2 10
+  pub head : Headed s 0 groupKind groupLength
   pub values : g ≡ groupAt s 0
   pub early : g .quarter < day .quarters
   pub counted : unitCount (g .count) ≡ true
@@ -104,10 +101,10 @@ group-is s day last {g} e =
     let b = need-is _ _ _ _ (a .1 .1) in
     let c = need-is _ _ _ _ (b .1) in
     let d = need-is _ _ _ _ (c .1) in
-    let f = field-in (aged (day .run) (groupAt s 0 .made) (day .«position_limit»)) 10 6 (groupAt s 0) (sym (d .1)) in
+    let f = field-in (aged (day .run) (groupAt s 0 .made) (day .«position_limit»)) 10 (groupMade .place) (groupAt s 0) (sym (d .1)) in
     let v = f .1 in
     record {
-      head = headed s 0 2 10 (a .1 .0);
+      head = headed s 0 groupKind groupLength (a .1 .0);
       values = v;
       early = rw v (ltb-true (groupAt s 0 .quarter) (day .quarters) (b .0));
       counted = rw v (c .0);
@@ -124,7 +121,7 @@ most q e =
     (λ k. either (eqb q 96) (eqb q 100) k (λ h. omega (arith, eqb-true q 96 h)) (λ h. omega (arith, eqb-true q 100 h)))
 
 module _ (s : List ℕ) (small : Bytes s) (day : DayRecord) (last : Last) (g : GroupRecord) {n : ℕ} (right : permitted (day .quarters) ≡ true)
-    (group : groupOf s day last ≡ is g) (units : unitsOf s 10 0 (day .run) (day .«margin_limit») (g .count) ≡ is n) where
+    (group : groupOf s day last ≡ is g) (units : unitsOf s groupLength 0 (day .run) (day .«margin_limit») (g .count) ≡ is n) where
   abbrev values : Columns
   values = columnsIn s (g .count)
 
@@ -132,35 +129,43 @@ module _ (s : List ℕ) (small : Bytes s) (day : DayRecord) (last : Last) (g : G
   counted = column-length (λ (i : ℕ). unitIn s i .number) (g .count)
 
   reads : (i : ℕ) → i < g .count → Read s i
-  unfolding floorIn
+  unfolding floorIn placeFrom
   reads i h = read-all s (day .run) (day .«margin_limit») 0 (g .count) units i (omega arith) (omega arith)
+
+  -- where they end is the block's length
+  ends : n ≡ blockLength values
+  ends = block-end s (day .run) (day .«margin_limit») (g .count) (group-is s day last group .head .long) units ∙ rw (counted, end-in s (g .count))
 
   -- the writer takes the values
   takes : (room : ℕ) → n ≤ room → writeBlockOf (g .quarter) values room ≡ is n
-  unfolding writeBlockOf groupChecks roomFor need next
+  unfolding writeBlockOf groupChecks unitsChecked roomFor need next
   takes room h =
       let k = group-is s day last group in
-      let b = block-end s (day .run) (day .«margin_limit») (g .count) units in
       let early = lt-ltb (g .quarter) 100 (omega (arith, k .early, most (day .quarters) right)) in
-      let all = fine-scan (unitChecks values) 0 (g .count) (λ i l m. fine i (omega arith)) in
-      simp (even-in s (g .count), early, counted, k .counted, all, le-leb (blockLength (g .count)) room (omega arith)) (ap is (sym b))
+      let some : unitCount (count values) ≡ true = rw counted (k .counted) in
+      let all = fine-scan (rowChecks values) 0 (count values) (λ i l m. fine i (omega (arith, counted))) in
+      let fits = le-leb (blockLength values) room (omega (arith, ends)) in
+      simp (even-in s (g .count), early, some, all, fits) (ap is (sym ends))
     where
-      fine : (i : ℕ) → i < g .count → unitChecks values i ≡ Fine
+      fine : (i : ℕ) → i < g .count → rowChecks values i ≡ Fine
       fine i h = rw (row-in s (g .count) i h, floor-in s (g .count) i h) (reads i h .fine)
 
   -- and lays them as the block's bytes
+  unit-again : (i : ℕ) → i < g .count
+      → unitBytes (rowOf values i) ≡ take (length (unitBytes (rowOf values i))) (drop (groupLength + length (unitsBytes values i)) s)
+  unit-again i h =
+      rw (length-unit (rowOf values i), length-units values i, end-in s (g .count) i, row-in s (g .count) i h) (unit-laid s small (unitPlace s i) (reads i h .head))
+
   lays : blockBytes g values ≡ take n s
   unfolding blockBytes unitsBytes
   lays =
       let k = group-is s day last group in
-      let b = block-end s (day .run) (day .«margin_limit») (g .count) units in
       let first = rw (← k .values) at (group-laid s small 0 (k .head)) in
-      let rest = run-again (λ (i : ℕ). unitBytes (rowOf values i)) 26 s 10 (g .count) (λ i h. rw (row-in s (g .count) i h) (unit-laid s small (10 + 26 * i) (reads i h .head))) in
-      rw (first, rest, b) (sym (take-add 10 (26 * g .count) s))
+      let rest = run-again (λ (i : ℕ). unitBytes (rowOf values i)) s groupLength (count values) (λ i h. unit-again i (rw counted at h)) in
+      rw (first, rest, ends, ← length-units values (count values)) (sym (take-add groupLength (length (unitsBytes values (count values))) s))
 
-  pub block-again : {entry exit : List ℕ} {r : Answer} → n ≤ length entry → BlockWritten (g .brp) (g .zone) (g .quarter) (g .made) values entry r exit
+  pub block-again : {entry exit : List ℕ} {r : Answer} → n ≤ length entry → BlockWritten (g .brp) (g .zone) (g .quarter) (g .made) (columnsIn s (g .count)) entry r exit
       → (answer r ≡ is n) × (take n exit ≡ take n s)
   block-again {entry} h w =
       let same : groupOver (g .brp) (g .zone) (g .quarter) (g .made) values ≡ g = rw counted in
-      let b = block-end s (day .run) (day .«margin_limit») (g .count) units in
-      written (blockBytes g values) entry n s (rw same at w) (takes (length entry) h) (length-block g values ∙ sym b) lays
+      written (blockBytes g values) entry n s (rw same at w) (takes (length entry) h) (length-block g values ∙ sym ends) lays

@@ -1,5 +1,5 @@
 -- How long each record is, and how long they are one after another.
-use Prim.Native.Nat.{ℕ, _*_}
+use Prim.Native.Nat.{ℕ, zero, suc, _+_, _*_}
 use mathlib.Core.Path.{_≡_, refl, _∙_}
 use native.Mathlib.Omega.{arith}
 use lib.ListN.{length, length-append}
@@ -10,47 +10,56 @@ use Rattle.records.specs.declared.group.GroupRecord.{GroupRecord}
 use Rattle.records.specs.declared.unit.UnitRecord.{UnitRecord}
 use Rattle.records.specs.declared.group_result.GroupResult.{GroupResult}
 use Rattle.records.specs.declared.unit_result.UnitResult.{UnitResult}
-use Rattle.records.specs.Layouts.{behind, dayBytes, endBytes, groupBytes, unitBytes, groupResultBytes, unitResultBytes}
-use Rattle.writers.specs.Columns.{Columns, rowOf}
+use Rattle.records.specs.Layouts.{behind, dayLength, dayBytes, endLength, endBytes, groupLength, groupBytes, unitLength, unitBytes, lengthOf}
+use Rattle.records.specs.Layouts.{groupResultLength, groupResultBytes, unitResultLength, unitResultBytes}
+use Rattle.writers.specs.Columns.{Columns, rowOf, count}
 use Rattle.writers.specs.Results.{Results, resultOf, unitResultsBytes}
-use Rattle.writers.specs.Writing.{unitsBytes, blockBytes, blockLength}
-use Rattle.writers.proofs.Runs.{length-run}
+use Rattle.writers.specs.Runs.{run}
+use Rattle.writers.specs.Writing.{unitsEnd, unitsBytes, blockBytes, blockLength}
+use Rattle.writers.proofs.Runs.{run-more, length-run}
 
-pub length-day : (d : DayRecord) → length (dayBytes d) ≡ 12
+pub length-day : (d : DayRecord) → length (dayBytes d) ≡ dayLength
 unfolding dayBytes behind bytes32 bytes16
 length-day d = refl
 
-pub length-end : (e : EndRecord) → length (endBytes e) ≡ 5
+pub length-end : (e : EndRecord) → length (endBytes e) ≡ endLength
 unfolding endBytes behind bytes32 bytes16
 length-end e = refl
 
-pub length-group : (g : GroupRecord) → length (groupBytes g) ≡ 10
+pub length-group : (g : GroupRecord) → length (groupBytes g) ≡ groupLength
 unfolding groupBytes behind bytes32 bytes16
 length-group g = refl
 
-pub length-unit : (u : UnitRecord) → length (unitBytes u) ≡ 26
+pub length-unit : (u : UnitRecord) → length (unitBytes u) ≡ lengthOf u
 unfolding unitBytes behind bytes32 bytes16
 length-unit u = refl
 
-pub length-group-result : (g : GroupResult) → length (groupResultBytes g) ≡ 27
+pub length-group-result : (g : GroupResult) → length (groupResultBytes g) ≡ groupResultLength
 unfolding groupResultBytes behind bytes32 bytes16
 length-group-result g = refl
 
-pub length-unit-result : (u : UnitResult) → length (unitResultBytes u) ≡ 20
+pub length-unit-result : (u : UnitResult) → length (unitResultBytes u) ≡ unitResultLength
 unfolding unitResultBytes behind bytes32 bytes16
 length-unit-result u = refl
 
-pub length-units : (c : Columns) (units : ℕ) → length (unitsBytes c units) ≡ 26 * units
-unfolding unitsBytes
-length-units c units = length-run (λ (i : ℕ). unitBytes (rowOf c i)) 26 (λ i. length-unit (rowOf c i)) units
+-- ---- a block
+-- the records of its units end where their lengths say
+pub length-units : (c : Columns) (units : ℕ) → groupLength + length (unitsBytes c units) ≡ unitsEnd c units
+unfolding unitsBytes unitsEnd run
+length-units c zero = refl
+length-units c (suc i) = omega (arith, run-more (λ (k : ℕ). unitBytes (rowOf c k)) i, length-unit (rowOf c i), length-units c i)
 
-pub length-block : (g : GroupRecord) (c : Columns) → length (blockBytes g c) ≡ blockLength (g .count)
+pub length-block : (g : GroupRecord) (c : Columns) → length (blockBytes g c) ≡ blockLength c
 unfolding blockBytes
-length-block g c =
-    let a = length-group g in
-    let b = length-units c (g .count) in
-    length-append (groupBytes g) (unitsBytes c (g .count)) ∙ omega arith
+length-block g c = length-append (groupBytes g) (unitsBytes c (count c)) ∙ omega (arith, length-group g, length-units c (count c))
 
-pub length-results : (r : Results) (units : ℕ) → length (unitResultsBytes r units) ≡ 20 * units
+-- the one law that says how long a block is: today every unit record has one length
+pub end-stride : (c : Columns) (units : ℕ) → unitsEnd c units ≡ groupLength + unitLength * units
+unfolding unitsEnd
+end-stride c zero = omega arith
+end-stride c (suc i) = omega (arith, end-stride c i)
+
+-- ---- a result
+pub length-results : (r : Results) (units : ℕ) → length (unitResultsBytes r units) ≡ unitResultLength * units
 unfolding unitResultsBytes
-length-results r units = length-run (λ (i : ℕ). unitResultBytes (resultOf r i)) 20 (λ i. length-unit-result (resultOf r i)) units
+length-results r units = length-run (λ (i : ℕ). unitResultBytes (resultOf r i)) unitResultLength (λ i. length-unit-result (resultOf r i)) units

@@ -2,7 +2,6 @@
 pub mod Writes
 pub mod Runs
 pub mod Lengths
-pub mod Scanned
 pub mod Accepted
 pub mod Tables
 pub mod Fields

@@ -10,14 +10,15 @@ use borrow.Author.Tests.{lt-ltb, le-leb, eq-eqb}
 use Rattle.numbers.specs.Bytes.{byteAt, bytes16, bytes32}
 use Rattle.terms.specs.Reply.{is, need, next}
 use Rattle.terms.specs.Refusals.{passed}
+use Rattle.terms.specs.Checks.{unitCount}
 use Rattle.terms.specs.declared.refusal.Checked.the-variants.{Fine}
 use Rattle.records.specs.declared.day.DayRecord.{DayRecord}
 use Rattle.records.specs.declared.group.GroupRecord.{GroupRecord}
 use Rattle.records.specs.declared.unit.UnitRecord.{UnitRecord}
 use Rattle.records.specs.declared.end.EndRecord.{EndRecord}
 use Rattle.records.specs.declared.key.Last.{Last}
-use Rattle.records.specs.Layouts.{behind, dayBytes, groupBytes, unitBytes, endBytes}
-use Rattle.records.specs.Reading.{headOf, permitted, dayFieldsOf, dayOf, unitCount, groupFieldsOf, groupOf, endFieldsOf, endOf, unitFaults, unitFieldsOf, unitOf}
+use Rattle.records.specs.Layouts.{behind, dayKind, dayLength, dayBytes, groupKind, groupLength, groupBytes, unitKind, unitLength, unitBytes, endKind, endLength, endBytes}
+use Rattle.records.specs.Reading.{headOf, permitted, dayFieldsOf, dayOf, groupFieldsOf, groupOf, endFieldsOf, endOf, unitFaults, unitFieldsOf, unitOf}
 use Rattle.writers.specs.Trips.{Joins}
 use Rattle.writers.proofs.Fields.{HeldUnit, day-read, group-read, unit-read, end-read}
 
@@ -32,21 +33,21 @@ head-read s at kind len bytes rest e k n h =
     simp (lt-ltb at (length s) (omega arith), eq-eqb (byteAt s at) kind first, le-leb (at + len) (length s) (omega arith))
 
 module _ (s : List ℕ) (at : ℕ) (rest : List ℕ) where
-  day-head : (d : DayRecord) → drop at s ≡ dayBytes d ++ rest → headOf s at 1 12 ≡ is (at + 12)
+  day-head : (d : DayRecord) → drop at s ≡ dayBytes d ++ rest → headOf s at dayKind dayLength ≡ is (at + dayLength)
   unfolding dayBytes behind bytes16 bytes32
-  day-head d e = head-read s at 1 12 (dayBytes d) rest e refl refl (omega arith)
+  day-head d e = head-read s at dayKind dayLength (dayBytes d) rest e refl refl (omega arith)
 
-  group-head : (g : GroupRecord) → drop at s ≡ groupBytes g ++ rest → headOf s at 2 10 ≡ is (at + 10)
+  group-head : (g : GroupRecord) → drop at s ≡ groupBytes g ++ rest → headOf s at groupKind groupLength ≡ is (at + groupLength)
   unfolding groupBytes behind bytes16 bytes32
-  group-head g e = head-read s at 2 10 (groupBytes g) rest e refl refl (omega arith)
+  group-head g e = head-read s at groupKind groupLength (groupBytes g) rest e refl refl (omega arith)
 
-  unit-head : (u : UnitRecord) → drop at s ≡ unitBytes u ++ rest → headOf s at 3 26 ≡ is (at + 26)
+  unit-head : (u : UnitRecord) → drop at s ≡ unitBytes u ++ rest → headOf s at unitKind unitLength ≡ is (at + unitLength)
   unfolding unitBytes behind bytes16 bytes32
-  unit-head u e = head-read s at 3 26 (unitBytes u) rest e refl refl (omega arith)
+  unit-head u e = head-read s at unitKind unitLength (unitBytes u) rest e refl refl (omega arith)
 
-  end-head : (x : EndRecord) → drop at s ≡ endBytes x ++ rest → headOf s at 15 5 ≡ is (at + 5)
+  end-head : (x : EndRecord) → drop at s ≡ endBytes x ++ rest → headOf s at endKind endLength ≡ is (at + endLength)
   unfolding endBytes behind bytes16 bytes32
-  end-head x e = head-read s at 15 5 (endBytes x) rest e refl refl (omega arith)
+  end-head x e = head-read s at endKind endLength (endBytes x) rest e refl refl (omega arith)
 
   pub unit-reads : (u : UnitRecord) (floor run limit : ℕ) → drop at s ≡ unitBytes u ++ rest → HeldUnit u → unitFaults u floor run limit ≡ Fine
       → unitOf s at floor run limit ≡ is u

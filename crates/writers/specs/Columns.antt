@@ -1,5 +1,5 @@
 -- "Ways in": a block's units as nine columns, one for each field of the unit record.
-use Prim.Native.Nat.{ℕ, zero, suc, _+_, _≤_}
+use Prim.Native.Nat.{ℕ, zero, suc, _+_}
 use mathlib.Core.Bool.{Bool, true, _&&_}
 use mathlib.Core.List.{List, [], _∷_}
 use lib.Dec.{eqb}
@@ -76,21 +76,8 @@ even c =
 -- the least number that a unit may have: any for the first, and then one above the number before
 unfoldable pub floorAt : Columns → ℕ → ℕ
 floorAt c zero = 0
-floorAt c (suc i) = getD (c .number) i 0 + 1
+floorAt c (suc i) = rowOf c i .number + 1
 
 -- 6, 7, 8, 9 of the unit of an index
-abbrev pub unitChecks : Columns → ℕ → Checked
-unitChecks c i = valueFaults (rowOf c i) (floorAt c i)
-
--- the columns are long enough for so many units, of which a group has at most 64
-pub record Long (units : ℕ) (c : Columns) : Type 0 where
-  pub few : units ≤ 64
-  pub number : units ≤ length (c .number)
-  pub class : units ≤ length (c .class)
-  pub coincide : units ≤ length (c .coincide)
-  pub nominated : units ≤ length (c .nominated)
-  pub n : units ≤ length (c .n)
-  pub pc : units ≤ length (c .pc)
-  pub step-down : units ≤ length (c .step-down)
-  pub step-up : units ≤ length (c .step-up)
-  pub made : units ≤ length (c .made)
+abbrev pub rowChecks : Columns → ℕ → Checked
+rowChecks c i = valueFaults (rowOf c i) (floorAt c i)

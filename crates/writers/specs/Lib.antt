@@ -4,3 +4,4 @@ pub mod Columns
 pub mod Writing
 pub mod Results
 pub mod Trips
+pub mod Inner

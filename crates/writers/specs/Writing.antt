@@ -1,19 +1,20 @@
 -- "Numbers given back", for the writers: a refusal writes nothing, and an accepted call writes its record and no byte of the room beyond it.
-use Prim.Native.Nat.{ℕ, _+_, _*_}
+use Prim.Native.Nat.{ℕ, zero, suc, _+_}
 use mathlib.Core.Path.{_≡_}
 use mathlib.Core.List.{List, _++_}
 use lib.Dec.{leb, ltb}
 use lib.ListN.{length, drop}
 use Rattle.terms.specs.Reply.{Reply, is, refused, need, next}
-use Rattle.terms.specs.Refusals.{answer, unitsFrom}
+use Rattle.terms.specs.Refusals.{answer, firstFault}
+use Rattle.terms.specs.Checks.{unitCount}
 use Rattle.terms.specs.declared.refusal.Answer.{Answer}
 use Rattle.records.specs.declared.day.DayRecord.{DayRecord}
 use Rattle.records.specs.declared.group.GroupRecord.{GroupRecord}
 use Rattle.records.specs.declared.end.EndRecord.{EndRecord}
-use Rattle.records.specs.Layouts.{dayLength, dayBytes, groupLength, groupBytes, unitLength, unitBytes, endLength, endBytes}
-use Rattle.records.specs.Reading.{permitted, unitCount}
+use Rattle.records.specs.Layouts.{dayLength, dayBytes, groupLength, groupBytes, unitBytes, lengthOf, endLength, endBytes}
+use Rattle.records.specs.Reading.{permitted}
 use Rattle.writers.specs.Runs.{run}
-use Rattle.writers.specs.Columns.{Columns, rowOf, count, even, unitChecks}
+use Rattle.writers.specs.Columns.{Columns, rowOf, count, even, rowChecks}
 
 -- the room after a reply: the bytes and then the rest of it, or the room as it was
 unfoldable pub laid : Reply ℕ → List ℕ → List ℕ → List ℕ
@@ -47,16 +48,25 @@ EndWritten e entry r exit = Wrote (writeEndOf (length entry)) (endBytes e) entry
 unfoldable pub groupChecks : ℕ → ℕ → Reply ℕ
 groupChecks quarter units = need (ltb quarter 100) 4 0 (need (unitCount units) 5 0 (is units))
 
-abbrev pub blockLength : ℕ → ℕ
-blockLength units = groupLength + unitLength * units
+-- where the records of so many units end: each begins where the one before ends, the first behind the group record
+unfoldable pub unitsEnd : Columns → ℕ → ℕ
+unitsEnd c zero = groupLength
+unitsEnd c (suc i) = unitsEnd c i + lengthOf (rowOf c i)
 
--- block: 15, 4, 5, per unit 6, 7, 8, 9 at its index, then 12
+abbrev pub blockLength : Columns → ℕ
+blockLength c = unitsEnd c (count c)
+
+-- each unit: 6, 7, 8, 9 at its index; the block's length where all pass
+unfoldable pub unitsChecked : Columns → Reply ℕ
+unitsChecked c = next (firstFault (rowChecks c) 0 (count c)) λ _. is (blockLength c)
+
+-- block: 15, 4, 5, its units, then 12
 unfoldable pub writeBlockOf : ℕ → Columns → ℕ → Reply ℕ
 writeBlockOf quarter c room =
     need (even c) 15 0
     (next (groupChecks quarter (count c)) λ _.
-    next (unitsFrom (unitChecks c) 0 (count c)) λ _.
-    roomFor (blockLength (count c)) room)
+    next (unitsChecked c) λ bytes.
+    roomFor bytes room)
 
 -- the group record, whose count is that of the columns' units, and then the units' records
 abbrev pub groupOver : ℕ → ℕ → ℕ → ℕ → Columns → GroupRecord
@@ -66,7 +76,7 @@ unfoldable pub unitsBytes : Columns → ℕ → List ℕ
 unitsBytes c units = run (λ (i : ℕ). unitBytes (rowOf c i)) units
 
 unfoldable pub blockBytes : GroupRecord → Columns → List ℕ
-blockBytes g c = groupBytes g ++ unitsBytes c (g .count)
+blockBytes g c = groupBytes g ++ unitsBytes c (count c)
 
 abbrev pub BlockWritten : ℕ → ℕ → ℕ → ℕ → Columns → List ℕ → Answer → List ℕ → Type 0
 BlockWritten brp zone quarter made c entry r exit =

@@ -1,19 +1,15 @@
 // The writer of a block: one group record and its units, given as columns.
 ghost use mathlib.Core.Path.{_≡_};
 ghost use mathlib.Core.List.{[], _∷_};
-ghost use Prim.Native.Nat.{_≤_};
-ghost use lib.ListN.{length};
-ghost use Rattle.numbers.specs.Bytes.{laidAt};
 ghost use Rattle.terms.specs.Refusals.{answer};
-ghost use Rattle.writers.specs.Columns.{columns, same, Long};
-ghost use Rattle.writers.specs.Writing.{groupChecks, writeBlockOf, blockBytes, blockLength, BlockWritten};
+ghost use Rattle.writers.specs.Columns.{columns, same};
+ghost use Rattle.writers.specs.Writing.{groupChecks, writeBlockOf, BlockWritten};
 use crate::columns::check_units;
 use crate::columns::lay_units;
 use crate::lay::lay_group;
 use crate::refuse::refused;
 use records::day::DayRecord;
 use records::group::GroupRecord;
-use records::unit::UnitRecord;
 use terms::refusal::Answer;
 use terms::refusal::Why;
 
@@ -62,10 +58,7 @@ fn check_group(quarter: u8, units: usize) -> Answer
     if DayRecord::AUTUMN <= quarter {
         return refused(Why::Quarter);
     }
-    if units == 0 {
-        return refused(Why::UnitCount);
-    }
-    if (GroupRecord::UNITS as usize) < units {
+    if !GroupRecord::permits(units) {
         return refused(Why::UnitCount);
     }
     Answer::Is(units)
@@ -87,9 +80,8 @@ fn check_block(
 ) -> Answer
     ensures { λ r. ⌜ answer r ≡ writeBlockOf quarter (columns (now (number .entry)) (now (class .entry)) (now (coincide .entry)) (now (nominated .entry)) (now (n .entry)) (now (pc .entry)) (now («step_down» .entry)) (now («step_up» .entry)) (now (made .entry))) room ⌝ }
 {
-    let units = number.len();
     if !are_same(
-        units,
+        number.len(),
         class.len(),
         coincide.len(),
         nominated.len(),
@@ -101,7 +93,7 @@ fn check_block(
     ) {
         return refused(Why::Columns);
     }
-    let g = check_group(quarter, units);
+    let g = check_group(quarter, number.len());
     let Answer::Is(_) = g else {
         return g;
     };
@@ -115,51 +107,14 @@ fn check_block(
         step_down,
         step_up,
         made,
-        units,
     );
-    let Answer::Is(_) = u else {
+    let Answer::Is(bytes) = u else {
         return u;
     };
-    let bytes = GroupRecord::LEN + UnitRecord::LEN * units;
     if room < bytes {
         return refused(Why::Room);
     }
-    Answer::Is(bytes)
-}
-
-// A group record and its units at the front of a room that is long enough.
-fn lay_block(
-    room: &mut [u8],
-    g: GroupRecord,
-    number: &[u16],
-    class: &[u8],
-    coincide: &[u8],
-    nominated: &[u8],
-    n: &[i32],
-    pc: &[i32],
-    step_down: &[i32],
-    step_up: &[i32],
-    made: &[u32],
-)
-    requires { ⌜ Long (g .count) (columns (now number) (now class) (now coincide) (now nominated) (now n) (now pc) (now «step_down») (now «step_up») (now made)) × (blockLength (g .count) ≤ length (now room)) ⌝ }
-    ensures { λ _. ⌜ now (room .exit) ≡ laidAt (now (room .entry)) 0 (blockBytes g (columns (now (number .entry)) (now (class .entry)) (now (coincide .entry)) (now (nominated .entry)) (now (n .entry)) (now (pc .entry)) (now («step_down» .entry)) (now («step_up» .entry)) (now (made .entry)))) ⌝ }
-{
-    let units = g.count as usize;
-    lay_group(room, 0, g);
-    lay_units(
-        room,
-        GroupRecord::LEN,
-        number,
-        class,
-        coincide,
-        nominated,
-        n,
-        pc,
-        step_down,
-        step_up,
-        made,
-        units,
-    );
+    u
 }
 
 // A block in the room's first bytes: 15, 4, 5, per unit 6, 7, 8, 9 at its index, then 12.
@@ -197,10 +152,14 @@ pub fn write_block(
     let Answer::Is(_) = checked else {
         return checked;
     };
-    let g = GroupRecord::new(brp, zone, quarter, number.len() as u8, made);
-    lay_block(
+    let units = number.len();
+    lay_group(
         room,
-        g,
+        0,
+        GroupRecord::new(brp, zone, quarter, units as u8, made),
+    );
+    lay_units(
+        room,
         number,
         class,
         coincide,
@@ -210,6 +169,7 @@ pub fn write_block(
         step_down,
         step_up,
         margins_made,
+        units,
     );
     checked
 }

@@ -1,13 +1,16 @@
-// A block's units as nine columns, one for each field of the unit record.
+// A block's units as nine columns, one for each field of the unit record: below here each unit is one value.
 ghost use mathlib.Core.Path.{_≡_};
-ghost use Prim.Native.Nat.{_+_, _*_, _<_, _≤_};
+ghost use Prim.Native.Nat.{_+_, _≤_};
 ghost use lib.ListN.{length};
 ghost use Rattle.numbers.specs.Bytes.{laidAt};
-ghost use Rattle.terms.specs.Refusals.{answer, unitsFrom};
-ghost use Rattle.writers.specs.Columns.{columns, rowOf, unitChecks, Long};
-ghost use Rattle.writers.specs.Writing.{unitsBytes};
+ghost use Rattle.terms.specs.Refusals.{answer};
+ghost use Rattle.records.specs.Layouts.{groupLength};
+ghost use Rattle.writers.specs.Columns.{columns, rowOf, count};
+ghost use Rattle.writers.specs.Writing.{unitsEnd, unitsChecked, unitsBytes};
+ghost use Rattle.writers.specs.Inner.{Long};
 use crate::lay::lay_unit;
 use records::faults::faults;
+use records::group::GroupRecord;
 use records::unit::UnitRecord;
 use terms::quantity::Nomination;
 use terms::quantity::Position;
@@ -26,10 +29,9 @@ fn row(
     step_down: &[i32],
     step_up: &[i32],
     made: &[u32],
-    units: usize,
     i: usize,
 ) -> UnitRecord
-    requires { ⌜ Long units (columns (now number) (now class) (now coincide) (now nominated) (now n) (now pc) (now «step_down») (now «step_up») (now made)) × (i < units) ⌝ }
+    requires { ⌜ Long (i + 1) (columns (now number) (now class) (now coincide) (now nominated) (now n) (now pc) (now «step_down») (now «step_up») (now made)) ⌝ }
     ensures { λ r. ⌜ r ≡ rowOf (columns (now (number .entry)) (now (class .entry)) (now (coincide .entry)) (now (nominated .entry)) (now (n .entry)) (now (pc .entry)) (now («step_down» .entry)) (now («step_up» .entry)) (now (made .entry))) i ⌝ }
 {
     UnitRecord {
@@ -45,10 +47,9 @@ fn row(
     }
 }
 
-// So many units' records, one after another from a place on.
+// So many units' records, one after another behind a group record.
 pub fn lay_units(
     room: &mut [u8],
-    at: usize,
     number: &[u16],
     class: &[u8],
     coincide: &[u8],
@@ -60,9 +61,10 @@ pub fn lay_units(
     made: &[u32],
     units: usize,
 )
-    requires { ⌜ Long units (columns (now number) (now class) (now coincide) (now nominated) (now n) (now pc) (now «step_down») (now «step_up») (now made)) × (at + 26 * units ≤ length (now room)) ⌝ }
-    ensures { λ _. ⌜ now (room .exit) ≡ laidAt (now (room .entry)) at (unitsBytes (columns (now (number .entry)) (now (class .entry)) (now (coincide .entry)) (now (nominated .entry)) (now (n .entry)) (now (pc .entry)) (now («step_down» .entry)) (now («step_up» .entry)) (now (made .entry))) units) ⌝ }
+    requires { ⌜ Long units (columns (now number) (now class) (now coincide) (now nominated) (now n) (now pc) (now «step_down») (now «step_up») (now made)) × (unitsEnd (columns (now number) (now class) (now coincide) (now nominated) (now n) (now pc) (now «step_down») (now «step_up») (now made)) units ≤ length (now room)) ⌝ }
+    ensures { λ _. ⌜ now (room .exit) ≡ laidAt (now (room .entry)) groupLength (unitsBytes (columns (now (number .entry)) (now (class .entry)) (now (coincide .entry)) (now (nominated .entry)) (now (n .entry)) (now (pc .entry)) (now («step_down» .entry)) (now («step_up» .entry)) (now (made .entry))) units) ⌝ }
 {
+    let mut here = GroupRecord::LEN;
     let mut i = 0;
     while i < units {
         let u = row(
@@ -75,15 +77,15 @@ pub fn lay_units(
             step_down,
             step_up,
             made,
-            units,
             i,
         );
-        lay_unit(room, at + UnitRecord::LEN * i, u);
+        lay_unit(room, here, u);
+        here += u.length();
         i += 1;
     }
 }
 
-// The faults of so many units: 6, 7, 8, 9, the first at its unit's index.
+// The faults of the units: 6, 7, 8, 9, the first at its unit's index; where their records end, if there is none.
 pub fn check_units(
     number: &[u16],
     class: &[u8],
@@ -94,14 +96,14 @@ pub fn check_units(
     step_down: &[i32],
     step_up: &[i32],
     made: &[u32],
-    units: usize,
 ) -> Answer
-    requires { ⌜ Long units (columns (now number) (now class) (now coincide) (now nominated) (now n) (now pc) (now «step_down») (now «step_up») (now made)) ⌝ }
-    ensures { λ r. ⌜ answer r ≡ unitsFrom (unitChecks (columns (now (number .entry)) (now (class .entry)) (now (coincide .entry)) (now (nominated .entry)) (now (n .entry)) (now (pc .entry)) (now («step_down» .entry)) (now («step_up» .entry)) (now (made .entry)))) 0 units ⌝ }
+    requires { ⌜ Long (count (columns (now number) (now class) (now coincide) (now nominated) (now n) (now pc) (now «step_down») (now «step_up») (now made))) (columns (now number) (now class) (now coincide) (now nominated) (now n) (now pc) (now «step_down») (now «step_up») (now made)) ⌝ }
+    ensures { λ r. ⌜ answer r ≡ unitsChecked (columns (now (number .entry)) (now (class .entry)) (now (coincide .entry)) (now (nominated .entry)) (now (n .entry)) (now (pc .entry)) (now («step_down» .entry)) (now («step_up» .entry)) (now (made .entry))) ⌝ }
 {
     let mut floor: u32 = 0;
+    let mut end = GroupRecord::LEN;
     let mut i = 0;
-    while i < units {
+    while i < number.len() {
         let u = row(
             number,
             class,
@@ -112,7 +114,6 @@ pub fn check_units(
             step_down,
             step_up,
             made,
-            units,
             i,
         );
         let f = faults(u, floor);
@@ -123,7 +124,8 @@ pub fn check_units(
             });
         }
         floor = (u.number as u32) + 1;
+        end += u.length();
         i += 1;
     }
-    Answer::Is(i)
+    Answer::Is(end)
 }

@@ -4,8 +4,8 @@ ghost use mathlib.Core.List.{[], _∷_};
 ghost use Prim.Native.Nat.{_+_, _≤_};
 ghost use lib.ListN.{length};
 ghost use Rattle.numbers.specs.Bytes.{bytes16, laidAt};
-ghost use Rattle.records.specs.Layouts.{dayBytes, groupBytes, unitBytes, endBytes};
-ghost use Rattle.writers.specs.Runs.{quantities};
+ghost use Rattle.records.specs.Layouts.{dayLength, dayBytes, groupLength, groupBytes, unitLength, unitBytes, endLength, endBytes};
+ghost use Rattle.writers.specs.Inner.{headLength, threeLength, fourLength, quantities};
 use numbers::bytes::lay_i32;
 use numbers::bytes::lay_u8;
 use numbers::bytes::lay_u16;
@@ -17,7 +17,7 @@ use records::unit::UnitRecord;
 
 // The kind, and the number of 16 bits that five of the six records begin with.
 pub fn lay_head(room: &mut [u8], at: usize, kind: u8, first: u16)
-    requires { ⌜ at + 3 ≤ length (now room) ⌝ }
+    requires { ⌜ at + headLength ≤ length (now room) ⌝ }
     ensures { λ _. ⌜ now (room .exit) ≡ laidAt (now (room .entry)) at (kind ∷ bytes16 first) ⌝ }
 {
     lay_u8(room, at, kind);
@@ -26,7 +26,7 @@ pub fn lay_head(room: &mut [u8], at: usize, kind: u8, first: u16)
 
 // Three fields of a byte each.
 pub fn lay_three(room: &mut [u8], at: usize, a: u8, b: u8, c: u8)
-    requires { ⌜ at + 3 ≤ length (now room) ⌝ }
+    requires { ⌜ at + threeLength ≤ length (now room) ⌝ }
     ensures { λ _. ⌜ now (room .exit) ≡ laidAt (now (room .entry)) at (a ∷ b ∷ c ∷ []) ⌝ }
 {
     lay_u8(room, at, a);
@@ -36,7 +36,7 @@ pub fn lay_three(room: &mut [u8], at: usize, a: u8, b: u8, c: u8)
 
 // Four fields of signed kWh.
 fn lay_four(room: &mut [u8], at: usize, a: i32, b: i32, c: i32, d: i32)
-    requires { ⌜ at + 16 ≤ length (now room) ⌝ }
+    requires { ⌜ at + fourLength ≤ length (now room) ⌝ }
     ensures { λ _. ⌜ now (room .exit) ≡ laidAt (now (room .entry)) at (quantities a b c d) ⌝ }
 {
     lay_i32(room, at, a);
@@ -46,7 +46,7 @@ fn lay_four(room: &mut [u8], at: usize, a: i32, b: i32, c: i32, d: i32)
 }
 
 pub fn lay_day(room: &mut [u8], at: usize, d: DayRecord)
-    requires { ⌜ at + 12 ≤ length (now room) ⌝ }
+    requires { ⌜ at + dayLength ≤ length (now room) ⌝ }
     ensures { λ _. ⌜ now (room .exit) ≡ laidAt (now (room .entry)) at (dayBytes d) ⌝ }
 {
     lay_head(room, at, DayRecord::KIND, d.day);
@@ -57,7 +57,7 @@ pub fn lay_day(room: &mut [u8], at: usize, d: DayRecord)
 }
 
 pub fn lay_group(room: &mut [u8], at: usize, g: GroupRecord)
-    requires { ⌜ at + 10 ≤ length (now room) ⌝ }
+    requires { ⌜ at + groupLength ≤ length (now room) ⌝ }
     ensures { λ _. ⌜ now (room .exit) ≡ laidAt (now (room .entry)) at (groupBytes g) ⌝ }
 {
     lay_head(room, at, GroupRecord::KIND, g.brp);
@@ -66,7 +66,7 @@ pub fn lay_group(room: &mut [u8], at: usize, g: GroupRecord)
 }
 
 pub fn lay_unit(room: &mut [u8], at: usize, u: UnitRecord)
-    requires { ⌜ at + 26 ≤ length (now room) ⌝ }
+    requires { ⌜ at + unitLength ≤ length (now room) ⌝ }
     ensures { λ _. ⌜ now (room .exit) ≡ laidAt (now (room .entry)) at (unitBytes u) ⌝ }
 {
     let n = u.n;
@@ -84,7 +84,7 @@ pub fn lay_unit(room: &mut [u8], at: usize, u: UnitRecord)
 }
 
 pub fn lay_end(room: &mut [u8], at: usize, e: EndRecord)
-    requires { ⌜ at + 5 ≤ length (now room) ⌝ }
+    requires { ⌜ at + endLength ≤ length (now room) ⌝ }
     ensures { λ _. ⌜ now (room .exit) ≡ laidAt (now (room .entry)) at (endBytes e) ⌝ }
 {
     lay_u8(room, at, EndRecord::KIND);

@@ -3,7 +3,7 @@ use mathlib.Core.Path.{_≡_}
 use native.Mathlib.Omega.{arith}
 use borrow.Author.Needs.{needs}
 use lib.ListN.{length}
-use Rattle.daylist.specs.Places.{Places}
+use Rattle.daylist.specs.Inner.{Places}
 use Rattle.daylist.proofs.all_turns.Statement.{statement}
 use Rattle.daylist.proofs.all_turns.Tie as tie
 

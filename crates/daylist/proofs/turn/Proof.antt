@@ -34,10 +34,12 @@ enum-known-listed c = search needs
 
 advanced-requires : tie.Need-advanced-requires
 advanced-requires c κs =
-    let s = c .before .before .before .before .before .before .before .before .before .before .before .before in
+    let list-next = c .before .before .before .before .before in
+    let input = list-next .before .before .before in
+    let s = input .before .before .before .before in
     let w = s .args .w in
     let out = now (s .args .output) in
-    let n = c .before .before .before .before .before .list-next in
+    let n = list-next .list-next in
     let o = rw (c .before .listed .given .1) at (n .ensures) in
     let u : c .before .listed .given .0 .0 .used ≤ length (take (w .end - w .from) (drop (w .from) (now (s .args .input)))) = used-inside _ _ _ _ o in
     let v : c .before .listed .given .0 .0 .written ≤ length (take (length out - w .full) (drop (w .full) out)) = written-inside _ _ _ _ o (n .kept .1 .1 .1 .0) in
@@ -49,10 +51,12 @@ enum-known-listed-2 c = search needs
 
 stopped-requires : tie.Need-stopped-requires
 stopped-requires c κs =
-    let s = c .before .before .before .before .before .before .before .before .before .before .before .before in
+    let list-next = c .before .before .before .before .before in
+    let input = list-next .before .before .before in
+    let s = input .before .before .before .before in
     let w = s .args .w in
     let out = now (s .args .output) in
-    let n = c .before .before .before .before .before .list-next in
+    let n = list-next .list-next in
     let o = rw (c .before .listed2 .given .1) at (n .ensures) in
     let v : c .before .listed2 .given .0 .0 ≤ length (take (length out - w .full) (drop (w .full) out)) = written-inside _ _ _ _ o (n .kept .1 .1 .1 .0) in
     let p = s .pre .0 in

@@ -1,17 +1,17 @@
--- `check_first` meets its contract: what opens with 02h is taken by the day just opened.
+-- `check_first` meets its contract: a block by the table is taken by the day just opened.
 use mathlib.Core.Path.{sym, ap, _∙_}
 use native.Mathlib.Omega.{arith}
 use mir.Facts.{toZ-ofZ}
 use mir.Val.{SFits}
 use mir.Syntax.{w32}
-use Rattle.terms.specs.Refusals.{answer}
+use Rattle.walk.specs.Answers.{headReply}
 use Rattle.desk.proofs.First.{refuses, head-out, long, short, gives}
 use borrow.Author.Needs.{needs}
 use Rattle.desk.proofs.check_first.Statement.{statement}
 use Rattle.desk.proofs.check_first.Tie as tie
 
-head-requires : tie.Need-head-requires
-head-requires c κs = search needs
+block-head-requires : tie.Need-block-head-requires
+block-head-requires c κs = search needs
 
 enum-told : tie.Need-enum-told
 enum-told c = search needs
@@ -27,24 +27,31 @@ minus-requires c κs = search needs
 
 returns : tie.Need-returns
 returns c =
-    let s = c .before .before .before .before .before .before .before in
+    let told = c .before .before in
+    let read = told .before .before in
+    let x = read .before .before .before .args in
     let f : SFits w32 (c .minus .result) = record { sfits = c .minus .ok } in
-    let e = sym (c .before .before .before .before .head .ensures) ∙ ap answer (c .before .before .enum-told2 .given .1) in
-    refuses _ _ (head-out (s .args .«record») _ _ e) (simp toZ-ofZ (rw (c .before .refusal .ensures, c .before .before .enum-told2 .given .1) at (c .minus .ensures)))
+    let e = sym (read .block-head .ensures) ∙ ap headReply (told .enum-told2 .given .1) in
+    refuses _ _ (head-out (x .«record») _ _ e) (simp toZ-ofZ (rw (c .before .refusal .ensures, told .enum-told2 .given .1) at (c .minus .ensures)))
 
 opened-requires : tie.Need-opened-requires
 opened-requires c κs = search needs
 
 take-block-requires : tie.Need-take-block-requires
 take-block-requires c κs =
-    let h = sym (c .before .before .before .before .head .ensures) ∙ ap answer (c .before .before .enum-told .given .1) in
+    let told = c .before .before in
+    let h = sym (told .before .before .block-head .ensures) ∙ ap headReply (told .enum-told .given .1) in
     rw (c .before .opened .ensures) (long _ h, omega arith)
 
 reply-requires : tie.Need-reply-requires
 reply-requires c κs =
-    let s = c .before .before .before .before .before .before .before .before .before .before in
-    let h = sym (c .before .before .before .before .before .before .before .head .ensures) ∙ ap answer (c .before .before .before .before .before .enum-told .given .1) in
-    let a = rw (c .before .before .before .before .opened .ensures) at (c .before .before .take-block .ensures) in
+    let put = c .before .before in
+    let day = put .before .before in
+    let told = day .before in
+    let read = told .before .before in
+    let s = read .before .before .before in
+    let h = sym (read .block-head .ensures) ∙ ap headReply (told .enum-told .given .1) in
+    let a = rw (day .opened .ensures) at (put .take-block .ensures) in
     λ step e. short _ h (s .args .«record») (s .pre) _ step (sym (a .gave .replied) ∙ e)
 
 same-length : tie.Need-same-length
@@ -52,9 +59,13 @@ same-length c = search needs
 
 returns-2 : tie.Need-returns-2
 returns-2 c =
-    let s = c .before .before .before .before .before .before .before .before .before .before .before in
-    let h = sym (c .before .before .before .before .before .before .before .before .head .ensures) ∙ ap answer (c .before .before .before .before .before .before .enum-told .given .1) in
-    let a = rw (c .before .before .before .before .before .opened .ensures) at (c .before .before .before .take-block .ensures) in
+    let put = c .before .before .before in
+    let day = put .before .before in
+    let told = day .before in
+    let read = told .before .before in
+    let s = read .before .before .before in
+    let h = sym (read .block-head .ensures) ∙ ap headReply (told .enum-told .given .1) in
+    let a = rw (day .opened .ensures) at (put .take-block .ensures) in
     let f : SFits w32 (c .reply .result) = record { sfits = c .reply .ok } in
     gives _ h (s .args .«record») (s .pre) a (simp toZ-ofZ (c .reply .ensures))
 
@@ -62,7 +73,7 @@ pub check-first-spec : {M : Type 1} → statement M
 check-first-spec =
     tie.close
     (tie.spec
-    head-requires
+    block-head-requires
     enum-told
     enum-told-2
     refusal-requires

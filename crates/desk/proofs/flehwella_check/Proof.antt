@@ -26,13 +26,15 @@ minus-requires c κs = search needs
 
 returns : tie.Need-returns
 returns c =
+    let read-day = c .before .before .before .before in
     let f : SFits w32 (c .minus .result) = record { sfits = c .minus .ok } in
-    let e = sym (c .before .before .before .before .read-day .ensures) ∙ ap dayReply (c .before .before .enum-told .given .1) in
+    let e = sym (read-day .read-day .ensures) ∙ ap dayReply (c .before .before .enum-told .given .1) in
     refuses _ _ (day-out _ _ _ e) (simp toZ-ofZ (rw (c .before .refusal .ensures, c .before .before .enum-told .given .1) at (c .minus .ensures)))
 
 check-first-requires : tie.Need-check-first-requires
 check-first-requires c κs =
-    let e = sym (c .before .before .before .before .read-day .ensures) ∙ ap dayReply (c .before .before .d .given .1) in
+    let read-day = c .before .before .before .before in
+    let e = sym (read-day .read-day .ensures) ∙ ap dayReply (c .before .before .d .given .1) in
     day-permitted _ e
 
 same-length : tie.Need-same-length
@@ -40,7 +42,8 @@ same-length c = search needs
 
 returns-2 : tie.Need-returns-2
 returns-2 c =
-    let e = sym (c .before .before .before .before .before .before .before .read-day .ensures) ∙ ap dayReply (c .before .before .before .before .before .d .given .1) in
+    let d = c .before .before .before .before .before in
+    let e = sym (d .before .before .read-day .ensures) ∙ ap dayReply (d .d .given .1) in
     let f : SFits w32 (c .before .before .check-first .result) = record { sfits = c .before .before .check-first .ok } in
     rw (day-in _ _ _ e) (simp toZ-ofZ (c .before .before .check-first .ensures))
 

@@ -9,8 +9,8 @@ use Rattle.probe.proofs.turn.Tie as tie
 read-head-requires : tie.Need-read-head-requires
 read-head-requires c κs = search needs
 
-enum-known-number : tie.Need-enum-known-number
-enum-known-number c = search needs
+enum-known-call : tie.Need-enum-known-call
+enum-known-call c = search needs
 
 enum-told : tie.Need-enum-told
 enum-told c = search needs
@@ -44,7 +44,7 @@ turn-spec =
     tie.close
     (tie.spec
     read-head-requires
-    enum-known-number
+    enum-known-call
     enum-told
     returns
     cast-end

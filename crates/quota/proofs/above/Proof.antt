@@ -7,7 +7,7 @@ use lib.Dec.{ltb}
 use lib.ListN.{length, getD}
 use Rattle.numbers.specs.Sum.{sumTo, count}
 use Rattle.numbers.proofs.Sums.{bit-one, count-one}
-use Rattle.quota.specs.Keys.{above}
+use Rattle.quota.specs.Inner.{above}
 use Rattle.quota.proofs.above.Statement.{statement}
 use Rattle.quota.proofs.above.Tie as tie
 

@@ -9,7 +9,9 @@ array-borrow-prefix-ranked : tie.Need-array-borrow-prefix-ranked
 array-borrow-prefix-ranked c = search needs
 
 slice-aggregate-cut-over : tie.Need-slice-aggregate-cut-over
-slice-aggregate-cut-over c = sym (length-take-le _ _ (c .before .before .before .pre .sized .few))
+slice-aggregate-cut-over c =
+    let start = c .before .before .before in
+    sym (length-take-le _ _ (start .pre .sized .few))
 
 cut-over-requires : tie.Need-cut-over-requires
 cut-over-requires c κs =

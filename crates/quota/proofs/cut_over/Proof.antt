@@ -17,26 +17,34 @@ same-length-2 c = search needs
 
 returns : tie.Need-returns
 returns c =
-    let start = c .before .before .before .before .before .before .before .before .before .before .before in
-    let wholes = c .before .before .before .before .before .before .cut-wholes in
+    let ranked = c .before .before .before in
+    let cut-wholes = ranked .before .before .before in
+    let start = cut-wholes .before .before .before .before .before in
+    let wholes = cut-wholes .cut-wholes in
     wholes .ensures .2 ∙ none-left (start .args .sizes .now) (start .args .c) (wholes .result .left) (wholes .ensures .0) (c .if1 .taken)
 
 slice-reshare-prefix-deal : tie.Need-slice-reshare-prefix-deal
 slice-reshare-prefix-deal c =
-    let start = c .before .before .before .before .before .before .before .before .before .before .before in
-    let wholes = c .before .before .before .before .before .before .cut-wholes in
+    let ranked = c .before .before .before in
+    let cut-wholes = ranked .before .before .before in
+    let start = cut-wholes .before .before .before .before .before in
+    let wholes = cut-wholes .cut-wholes in
     ranked-inside (start .pre .0) (start .args .ranked .now) (wholes .ensures)
 
 slice-aggregate-deal : tie.Need-slice-aggregate-deal
 slice-aggregate-deal c =
-    let start = c .before .before .before .before .before .before .before .before .before .before .before .before in
-    let wholes = c .before .before .before .before .before .before .before .cut-wholes in
+    let ranked = c .before .before .before .before in
+    let cut-wholes = ranked .before .before .before in
+    let start = cut-wholes .before .before .before .before .before in
+    let wholes = cut-wholes .cut-wholes in
     sym (length-take-le _ _ (ranked-inside (start .pre .0) (start .args .ranked .now) (wholes .ensures)))
 
 deal-requires : tie.Need-deal-requires
 deal-requires c κs =
-    let start = c .before .before .before .before .before .before .before .before .before .before .before .before .before in
-    let wholes = c .before .before .before .before .before .before .before .before .cut-wholes in
+    let ranked = c .before .before .before .before .before in
+    let cut-wholes = ranked .before .before .before in
+    let start = cut-wholes .before .before .before .before .before in
+    let wholes = cut-wholes .cut-wholes in
     may-deal (start .pre .0) (start .args .ranked .now) (wholes .ensures)
 
 same-length-3 : tie.Need-same-length-3
@@ -47,8 +55,11 @@ same-length-4 c = search needs
 
 returns-2 : tie.Need-returns-2
 returns-2 c =
-    let start = c .before .before .before .before .before .before .before .before .before .before .before .before .before .before .before .before in
-    let wholes = c .before .before .before .before .before .before .before .before .before .before .before .cut-wholes in
+    let test = c .before .before .before .before .before in
+    let ranked = test .before .before .before in
+    let cut-wholes = ranked .before .before .before in
+    let start = cut-wholes .before .before .before .before .before in
+    let wholes = cut-wholes .cut-wholes in
     c .before .before .deal .ensures ∙ all-dealt (start .pre .0) (start .args .ranked .now) (wholes .ensures)
 
 pub cut-over-spec : {M : Type 1} → statement M

@@ -6,7 +6,7 @@ use native.Mathlib.Nat.{le-refl}
 use borrow.Author.Needs.{needs}
 use lib.ListN.{length}
 use Rattle.numbers.specs.Sum.{sumTo}
-use Rattle.quota.specs.Keys.{rankedOf}
+use Rattle.quota.specs.Inner.{rankedOf}
 use Rattle.quota.proofs.Steps.{Wholes, total-small, rest-small, whole-left, wholes-plain, wholes-more, wholes-end}
 use Rattle.quota.proofs.cut_wholes.Statement.{statement}
 use Rattle.quota.proofs.cut_wholes.Tie as tie
@@ -41,18 +41,21 @@ slice-write-sizes c = search needs
 
 sub-left : tie.Need-sub-left Inv-loop μ-loop
 sub-left c =
-    let asked = c .before .before .before .before .before .before .before .pre .0 in
+    let loop-test = c .before .before .before in
+    let asked = loop-test .before .before .before .before .pre .0 in
     let share = c .before .share-of in
-    whole-left asked (c .before .before .before .before .loop .inv) (share .result .whole) (share .result .rest)
-    (c .before .before .before .loop-test .taken) (share .ensures .0) (share .ensures .1)
+    whole-left asked (loop-test .before .loop .inv) (share .result .whole) (share .result .rest)
+    (loop-test .loop-test .taken) (share .ensures .0) (share .ensures .1)
 
 -- a key fits where it is made
 small : (c : tie.After-struct-known3 Inv-loop μ-loop) → c .before .before .before .before .share-of .result .rest ≤ 64000000
 small c =
-    let start = c .before .before .before .before .before .before .before .before .before .before in
+    let share-of = c .before .before .before .before in
+    let loop = share-of .before .before .before in
+    let start = loop .before .before .before in
     let a = start .args in
     let asked = start .pre .0 in
-    rest-small (a .c) _ (a .t) _ (asked .within) (total-small asked) (c .before .before .before .before .share-of .ensures .1)
+    rest-small (a .c) _ (a .t) _ (asked .within) (total-small asked) (share-of .share-of .ensures .1)
 
 mul-ranked : tie.Need-mul-ranked Inv-loop μ-loop
 mul-ranked c = omega (arith, small c)
@@ -83,12 +86,15 @@ loop-less c = search needs
 
 loop-again : tie.Need-loop-again Inv-loop μ-loop
 loop-again c =
-    let pre = c .before .before .before .before .before .before .before .before .before .pre in
-    let share = c .before .before .before .share-of in
+    let share-of = c .before .before .before in
+    let loop = share-of .before .before .before in
+    let start = loop .before .before .before in
+    let pre = start .pre in
+    let share = share-of .share-of in
     let w = share .result .whole in
     let r = share .result .rest in
-    let inv = c .before .before .before .before .before .before .loop .inv in
-    let l = c .before .before .before .before .before .loop-test .taken in
+    let inv = loop .loop .inv in
+    let l = share-of .before .before .loop-test .taken in
     ⊎-elim (λ p. rw (p .2, p .3) (wholes-more (pre .0) inv w r l (share .ensures .0) (share .ensures .1) (p .0 .taken) (pre .1)))
     (λ p. rw (p .1, p .2) (wholes-plain (pre .0) inv w r l (share .ensures .0) (share .ensures .1) (omega (arith, p .0 .left))))
     (c .if1 .came)
@@ -100,7 +106,9 @@ same-length-2 : tie.Need-same-length-2 Inv-loop μ-loop
 same-length-2 c = search needs
 
 returns : tie.Need-returns Inv-loop μ-loop
-returns c = wholes-end (c .before .before .before .before .pre .0) (c .before .loop .inv) (c .loop-test .left)
+returns c =
+    let start = c .before .before .before .before in
+    wholes-end (start .pre .0) (c .before .loop .inv) (c .loop-test .left)
 
 pub cut-wholes-spec : {M : Type 1} → statement M
 cut-wholes-spec =

@@ -7,7 +7,7 @@ use lib.Dec.{ltb}
 use lib.ListN.{length, getD}
 use Rattle.numbers.specs.Sum.{sumTo, count}
 use Rattle.numbers.proofs.Sums.{bit-one, count-all}
-use Rattle.quota.specs.Keys.{unitOf, deals}
+use Rattle.quota.specs.Inner.{unitOf, deals}
 use Rattle.quota.proofs.Steps.{Deals, deals-more, deals-end}
 use Rattle.quota.proofs.deal.Statement.{statement}
 use Rattle.quota.proofs.deal.Tie as tie
@@ -44,13 +44,17 @@ mul-cuts : tie.Need-mul-cuts Inv-loop μ-loop
 mul-cuts c = search needs
 
 slice-read-cuts : tie.Need-slice-read-cuts Inv-loop μ-loop
-slice-read-cuts c = omega (arith, c .before .before .before .before .before .before .before .pre .1 (c .before .before .before .before .loop .j) (omega arith))
+slice-read-cuts c =
+    let loop = c .before .before .before .before in
+    let start = loop .before .before .before in
+    omega (arith, start .pre .1 (loop .loop .j) (omega arith))
 
 add-cuts : tie.Need-add-cuts Inv-loop μ-loop
 add-cuts c =
-    let start = c .before .before .before .before .before .before .before in
+    let loop = c .before .before .before .before in
+    let start = loop .before .before .before in
     let a = start .args in
-    let o = c .before .before .before .before .loop in
+    let o = loop .loop in
     let k : ℕ = unitOf (getD (a .ranked .now) (o .j) 0) in
     omega (
       arith,
@@ -61,7 +65,10 @@ add-cuts c =
     )
 
 slice-write-cuts : tie.Need-slice-write-cuts Inv-loop μ-loop
-slice-write-cuts c = omega (arith, c .before .before .before .before .before .before .before .pre .1 (c .before .before .before .before .loop .j) (omega arith))
+slice-write-cuts c =
+    let loop = c .before .before .before .before in
+    let start = loop .before .before .before in
+    omega (arith, start .pre .1 (loop .loop .j) (omega arith))
 
 add-j : tie.Need-add-j Inv-loop μ-loop
 add-j c = search needs
@@ -71,9 +78,10 @@ loop-less c = search needs
 
 loop-again : tie.Need-loop-again Inv-loop μ-loop
 loop-again c =
-    let start = c .before .before .before .before .before .before .before in
-    let o = c .before .before .before .before .loop in
-    let l = c .before .before .before .loop-test .taken in
+    let loop-test = c .before .before .before in
+    let start = loop-test .before .before .before .before in
+    let o = loop-test .before .loop in
+    let l = loop-test .loop-test .taken in
     deals-more (o .inv) _ refl l (start .pre .1 (o .j) l) (ap (λ (r : ℕ). ltb r (start .args .left)) (c .before .above .ensures))
 
 same-length : tie.Need-same-length Inv-loop μ-loop

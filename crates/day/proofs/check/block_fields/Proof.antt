@@ -22,7 +22,9 @@ refusal-requires c κs = search needs
 
 returns : tie.Need-returns
 unfolding blockFieldsOf next
-returns c = rw (c .refusal .ensures, ← (c .before .before .before .group-fields .ensures), c .before .enum-told .given .1)
+returns c =
+    let group-fields = c .before .before .before in
+    rw (c .refusal .ensures, ← (group-fields .group-fields .ensures), c .before .enum-told .given .1)
 
 cast-units-from : tie.Need-cast-units-from
 cast-units-from c = search needs
@@ -42,8 +44,10 @@ refusal-requires-2 c κs = search needs
 returns-2 : tie.Need-returns-2
 unfolding blockFieldsOf next
 returns-2 c =
-    let p = sym (c .before .before .before .before .before .before .before .before .group-fields .ensures) ∙ ap groupReply (c .before .before .before .before .before .before .g .given .1) in
-    rw (c .refusal2 .ensures, p, ← (c .before .before .before .units-from .ensures), c .before .enum-told2 .given .1)
+    let units-from = c .before .before .before in
+    let g = units-from .before .before .before in
+    let p = sym (g .before .before .group-fields .ensures) ∙ ap groupReply (g .g .given .1) in
+    rw (c .refusal2 .ensures, p, ← (units-from .units-from .ensures), c .before .enum-told2 .given .1)
 
 of-requires : tie.Need-of-requires
 of-requires c κs = search needs
@@ -51,8 +55,10 @@ of-requires c κs = search needs
 returns-3 : tie.Need-returns-3
 unfolding blockFieldsOf next
 returns-3 c =
-    let p = sym (c .before .before .before .before .before .before .before .before .before .group-fields .ensures) ∙ ap groupReply (c .before .before .before .before .before .before .before .g .given .1) in
-    let q = sym (c .before .before .before .before .units-from .ensures) ∙ ap answer (c .before .before .u .given .1) in
+    let units-from = c .before .before .before .before in
+    let g = units-from .before .before .before in
+    let p = sym (g .before .before .group-fields .ensures) ∙ ap groupReply (g .g .given .1) in
+    let q = sym (units-from .units-from .ensures) ∙ ap answer (c .before .before .u .given .1) in
     rw (c .of .ensures, p, q)
 
 pub block-fields-spec : {M : Type 1} → statement M

@@ -2,9 +2,10 @@
 use mathlib.Core.Path.{sym, ap, _∙_}
 use borrow.Author.Tests.{not-true, not-false}
 use borrow.Author.Needs.{needs}
+use denote.Ref.{now}
 use Rattle.terms.specs.Reply.{need, next}
-use Rattle.terms.specs.Refusals.{answer}
-use Rattle.records.proofs.Heads.{headed}
+use Rattle.walk.specs.Answers.{headReply}
+use Rattle.walk.proofs.Coming.{block-came}
 use Rattle.day.specs.Checking.{checkOf}
 use Rattle.day.proofs.Lengths.{nothing, something}
 use Rattle.day.proofs.check.check_block.Tie as tie
@@ -14,17 +15,17 @@ returns : tie.Need-returns
 unfolding checkOf need next
 returns c = simp (nothing (c .if1 .taken))
 
-takes-blocks-requires : tie.Need-takes-blocks-requires
-takes-blocks-requires c κs = search needs
+is-possible-requires : tie.Need-is-possible-requires
+is-possible-requires c κs = search needs
 
 returns-2 : tie.Need-returns-2
 unfolding checkOf need next
 returns-2 c =
-    let q = sym (c .before .takes-blocks .ensures) ∙ not-true _ (c .if2 .taken) in
+    let q = sym (c .before .is-possible .ensures) ∙ not-true _ (c .if2 .taken) in
     simp (something (c .before .before .if1 .left), q)
 
-head-requires : tie.Need-head-requires
-head-requires c κs = search needs
+block-head-requires : tie.Need-block-head-requires
+block-head-requires c κs = search needs
 
 enum-told : tie.Need-enum-told
 enum-told c = search needs
@@ -38,26 +39,35 @@ refusal-requires c κs = search needs
 returns-3 : tie.Need-returns-3
 unfolding checkOf need next
 returns-3 c =
-    let q = sym (c .before .before .before .before .before .takes-blocks .ensures) ∙ not-false _ (c .before .before .before .before .if2 .left) in
-    simp (something (c .before .before .before .before .before .before .if1 .left), q) (rw (c .refusal .ensures, ← (c .before .before .before .head .ensures), c .before .enum-told2 .given .1))
+    let told = c .before in
+    let head = told .before .before in
+    let test = head .before in
+    let q = sym (test .before .is-possible .ensures) ∙ not-false _ (test .if2 .left) in
+    simp (something (test .before .before .if1 .left), q) (rw (c .refusal .ensures, ← (head .block-head .ensures), told .enum-told2 .given .1))
 
 block-fields-requires : tie.Need-block-fields-requires
-block-fields-requires c κs = headed _ 0 2 10 (sym (c .before .before .head .ensures) ∙ ap answer (c .enum-told .given .1)) .long
+block-fields-requires c κs =
+    let head = c .before .before in
+    let x = head .before .before .before .before .before .args in
+    block-came (now (x .s)) 0 (x .day .state) _ (sym (head .block-head .ensures) ∙ ap headReply (c .enum-told .given .1)) .long
 
 returns-4 : tie.Need-returns-4
 unfolding checkOf need next
 returns-4 c =
-    let q = sym (c .before .before .before .before .before .takes-blocks .ensures) ∙ not-false _ (c .before .before .before .before .if2 .left) in
-    simp (something (c .before .before .before .before .before .before .if1 .left), q) (rw (← (c .before .before .before .head .ensures), c .before .enum-told .given .1) (c .block-fields .ensures))
+    let told = c .before in
+    let head = told .before .before in
+    let test = head .before in
+    let q = sym (test .before .is-possible .ensures) ∙ not-false _ (test .if2 .left) in
+    simp (something (test .before .before .if1 .left), q) (rw (← (head .block-head .ensures), told .enum-told .given .1) (c .block-fields .ensures))
 
 pub check-block-spec : {M : Type 1} → statement M
 check-block-spec =
     tie.close
     (tie.spec
     returns
-    takes-blocks-requires
+    is-possible-requires
     returns-2
-    head-requires
+    block-head-requires
     enum-told
     enum-told-2
     refusal-requires

@@ -54,13 +54,52 @@ lay-i32-requires-5 : tie.Need-lay-i32-requires-5
 lay-i32-requires-5 c κs = search needs
 
 lay-head-requires : tie.Need-lay-head-requires
-lay-head-requires c κs = omega (arith, c .before .before .before .lay-i325 .kept, c .before .before .before .before .before .before .before .before .before .lay-i324 .kept, c .before .before .before .before .before .before .before .before .before .before .before .before .before .before .before .lay-i323 .kept, c .before .before .before .before .before .before .before .before .before .before .before .before .before .before .before .before .before .before .before .before .before .lay-i322 .kept, c .before .before .before .before .before .before .before .before .before .before .before .before .before .before .before .before .before .before .before .before .before .before .before .before .before .before .before .lay-i32 .kept, c .before .before .before .before .before .before .before .before .before .before .before .before .before .before .before .before .before .before .before .before .before .before .before .before .before .before .before .before .before .before .before .before .before .before .before .before .before .pre .1)
+lay-head-requires c κs =
+    let lay-i325 = c .before .before .before in
+    let room4 = lay-i325 .before .before .before .before .before in
+    let lay-i324 = room4 .before in
+    let room3 = lay-i324 .before .before .before .before .before in
+    let lay-i323 = room3 .before in
+    let room2 = lay-i323 .before .before .before .before .before in
+    let lay-i322 = room2 .before in
+    let u16-at = lay-i322 .before .before .before in
+    let lay-i32 = u16-at .before .before .before in
+    let s2 = lay-i32 .before .before .before .before .before in
+    let start = s2 .before .before .before .before .before in
+    omega (arith, lay-i325 .lay-i325 .kept, lay-i324 .lay-i324 .kept, lay-i323 .lay-i323 .kept, lay-i322 .lay-i322 .kept, lay-i32 .lay-i32 .kept, start .pre .1)
 
 lay-three-requires : tie.Need-lay-three-requires
-lay-three-requires c κs = omega (arith, c .before .before .before .lay-head .kept, c .before .before .before .before .before .before .before .lay-i325 .kept, c .before .before .before .before .before .before .before .before .before .before .before .before .before .lay-i324 .kept, c .before .before .before .before .before .before .before .before .before .before .before .before .before .before .before .before .before .before .before .lay-i323 .kept, c .before .before .before .before .before .before .before .before .before .before .before .before .before .before .before .before .before .before .before .before .before .before .before .before .before .lay-i322 .kept, c .before .before .before .before .before .before .before .before .before .before .before .before .before .before .before .before .before .before .before .before .before .before .before .before .before .before .before .before .before .before .before .lay-i32 .kept, c .before .before .before .before .before .before .before .before .before .before .before .before .before .before .before .before .before .before .before .before .before .before .before .before .before .before .before .before .before .before .before .before .before .before .before .before .before .before .before .before .before .pre .1)
+lay-three-requires c κs =
+    let lay-head = c .before .before .before in
+    let lay-i325 = lay-head .before .before .before .before in
+    let room4 = lay-i325 .before .before .before .before .before in
+    let lay-i324 = room4 .before in
+    let room3 = lay-i324 .before .before .before .before .before in
+    let lay-i323 = room3 .before in
+    let room2 = lay-i323 .before .before .before .before .before in
+    let lay-i322 = room2 .before in
+    let u16-at = lay-i322 .before .before .before in
+    let lay-i32 = u16-at .before .before .before in
+    let s2 = lay-i32 .before .before .before .before .before in
+    let start = s2 .before .before .before .before .before in
+    omega (arith, lay-head .lay-head .kept, lay-i325 .lay-i325 .kept, lay-i324 .lay-i324 .kept, lay-i323 .lay-i323 .kept, lay-i322 .lay-i322 .kept, lay-i32 .lay-i32 .kept, start .pre .1)
 
 lay-u8-requires : tie.Need-lay-u8-requires
-lay-u8-requires c κs = omega (arith, c .before .before .before .lay-three .kept, c .before .before .before .before .before .before .before .lay-head .kept, c .before .before .before .before .before .before .before .before .before .before .before .lay-i325 .kept, c .before .before .before .before .before .before .before .before .before .before .before .before .before .before .before .before .before .lay-i324 .kept, c .before .before .before .before .before .before .before .before .before .before .before .before .before .before .before .before .before .before .before .before .before .before .before .lay-i323 .kept, c .before .before .before .before .before .before .before .before .before .before .before .before .before .before .before .before .before .before .before .before .before .before .before .before .before .before .before .before .before .lay-i322 .kept, c .before .before .before .before .before .before .before .before .before .before .before .before .before .before .before .before .before .before .before .before .before .before .before .before .before .before .before .before .before .before .before .before .before .before .before .lay-i32 .kept, c .before .before .before .before .before .before .before .before .before .before .before .before .before .before .before .before .before .before .before .before .before .before .before .before .before .before .before .before .before .before .before .before .before .before .before .before .before .before .before .before .before .before .before .before .before .pre .1)
+lay-u8-requires c κs =
+    let lay-three = c .before .before .before in
+    let lay-head = lay-three .before .before .before .before in
+    let lay-i325 = lay-head .before .before .before .before in
+    let room4 = lay-i325 .before .before .before .before .before in
+    let lay-i324 = room4 .before in
+    let room3 = lay-i324 .before .before .before .before .before in
+    let lay-i323 = room3 .before in
+    let room2 = lay-i323 .before .before .before .before .before in
+    let lay-i322 = room2 .before in
+    let u16-at = lay-i322 .before .before .before in
+    let lay-i32 = u16-at .before .before .before in
+    let s2 = lay-i32 .before .before .before .before .before in
+    let start = s2 .before .before .before .before .before in
+    omega (arith, lay-three .lay-three .kept, lay-head .lay-head .kept, lay-i325 .lay-i325 .kept, lay-i324 .lay-i324 .kept, lay-i323 .lay-i323 .kept, lay-i322 .lay-i322 .kept, lay-i32 .lay-i32 .kept, start .pre .1)
 
 returns : tie.Need-returns
 unfolding groupResultBytes groupResult groupAt behind bytes32 bytes16
@@ -69,12 +108,16 @@ returns c =
     let d7 = d8 .before .before .before .before in
     let d6 = d7 .before .before .before .before in
     let d5 = d6 .before .before .before .before in
-    let d4 = d5 .before .before .before .before .before .before in
-    let d3 = d4 .before .before .before .before .before .before in
-    let d2 = d3 .before .before .before .before .before .before in
+    let room4 = d5 .before .before .before .before .before in
+    let d4 = room4 .before in
+    let room3 = d4 .before .before .before .before .before in
+    let d3 = room3 .before in
+    let room2 = d3 .before .before .before .before .before in
+    let d2 = room2 .before in
     let brp = d2 .before .before .before in
     let d1 = brp .before .before .before in
-    let s = d1 .before .before .before .before .before .before .before .before .before .before in
+    let s2 = d1 .before .before .before .before .before in
+    let s = s2 .before .before .before .before .before in
     let h = s .pre .1 in
     let l = now (s .args .room) in
     let b = now (s .args .s) in
@@ -112,7 +155,16 @@ returns c =
 
 same-length : tie.Need-same-length
 same-length c =
-    let s = c .before .before .before .before .before .before .before .before .before .before .before .before .before .before .before .before .before .before .before .before .before .before .before .before .before .before .before .before .before .before .before .before .before .before .before .before .before .before .before .before .before .before .before .before .before .before .before .before in
+    let room7 = c .before .before .before .before .before in
+    let lay-head = room7 .before .before .before .before .before in
+    let told = lay-head .before .before .before .before .before in
+    let lay-i324 = told .before .before .before .before .before in
+    let room3 = lay-i324 .before .before .before .before .before in
+    let known = room3 .before .before .before .before .before in
+    let u16-at = known .before .before .before .before .before in
+    let lay-i32 = u16-at .before .before .before in
+    let s2 = lay-i32 .before .before .before .before .before in
+    let s = s2 .before .before .before .before .before in
     let g = groupResult (blockKey (now (s .args .s))) (blockCount (now (s .args .s))) (s .args .sums) in
     let n = length-group-result g in
     let h = s .pre .1 in

@@ -1,35 +1,42 @@
--- Each turn lays the result of one unit more behind those laid so far, and adds its n3.
+-- Each turn lays the result of one unit more behind those laid so far.
 use Prim.Native.Nat.{_-_}
+use native.Mathlib.Omega.{arith}
 use lib.ListN.{length}
 use denote.Ref.{now}
-use Rattle.day.proofs.Laying.{Summing, starts, still, adds, turns, ends}
 use borrow.Author.Needs.{needs}
+use Rattle.records.specs.Layouts.{unitResultLength}
+use Rattle.day.proofs.Laying.{Going, starts, there, turns, ends}
 use Rattle.day.proofs.lay.lay_unit_results.Statement.{statement}
 use Rattle.day.proofs.lay.lay_unit_results.Tie as tie
 
 abbrev Inv-loop : tie.InvT-loop
-Inv-loop room₀ s d n1 losses s3₀ i₀ room s3 i = Summing s d n1 losses room₀ room s3 i
+Inv-loop room₀ s why n0 n1 n2 n3 here₀ to₀ i₀ room here to i = Going s why n0 n1 n2 n3 room₀ room here to i
 
 abbrev μ-loop : tie.MeasureT-loop
-μ-loop room₀ s d n1 losses s3₀ i₀ room s3 i = length n1 - i
+μ-loop room₀ s why n0 n1 n2 n3 here₀ to₀ i₀ room here to i = length n0 - i
 
 loop-holds : tie.Need-loop-holds Inv-loop μ-loop
 loop-holds c =
     let s = c .before .before .before in
-    let a = s .args in
-    starts (now (a .s)) (a .d) (now (a .n1)) (now (a .losses)) (now (a .room)) (s .pre)
+    starts _ _ _ _ _ _ _ (s .pre)
 
 lay-unit-result-requires : tie.Need-lay-unit-result-requires Inv-loop μ-loop
 lay-unit-result-requires c κs =
-    let s = c .before .before .before .before .before .before in
-    let a = s .args in
-    (still (now (a .s)) (a .d) (now (a .n1)) (now (a .losses)) (now (a .room)) (s .pre) (c .before .before .loop .inv), c .before .loop-test .taken)
+    let test = c .before in
+    let s = test .before .before .before .before .before in
+    there _ _ _ _ _ _ _ (s .pre) (test .before .loop .inv) (test .loop-test .taken)
 
-add-s3 : tie.Need-add-s3 Inv-loop μ-loop
-add-s3 c =
-    let s = c .before .before .before .before .before .before .before .before .before in
-    let a = s .args in
-    adds (now (a .s)) (a .d) (now (a .n1)) (now (a .losses)) (now (a .room)) (s .pre) (c .before .before .before .before .before .loop .inv) (c .before .before .before .before .loop-test .taken) (c .before .before .lay-unit-result .ensures .0)
+unit-end-requires : tie.Need-unit-end-requires Inv-loop μ-loop
+unit-end-requires c κs =
+    let test = c .before .before .before .before in
+    let s = test .before .before .before .before .before in
+    there _ _ _ _ _ _ _ (s .pre) (test .before .loop .inv) (test .loop-test .taken) .bytes
+
+add-to : tie.Need-add-to Inv-loop μ-loop
+add-to c =
+    let test = c .before .before .before .before .before in
+    let s = test .before .before .before .before .before in
+    omega (arith, there _ _ _ _ _ _ _ (s .pre) (test .before .loop .inv) (test .loop-test .taken) .enough, s .good .0)
 
 add-i : tie.Need-add-i Inv-loop μ-loop
 add-i c = search needs
@@ -39,10 +46,10 @@ loop-less c = search needs
 
 loop-again : tie.Need-loop-again Inv-loop μ-loop
 loop-again c =
-    let s = c .before .before .before .before .before .before .before .before .before in
-    let a = s .args in
-    let e = c .before .before .lay-unit-result .ensures in
-    turns (now (a .s)) (a .d) (now (a .n1)) (now (a .losses)) (now (a .room)) (s .pre) (c .before .before .before .before .before .loop .inv) (c .before .before .before .before .loop-test .taken) (e .0) (e .1)
+    let laid = c .before .before .before in
+    let test = laid .before .before in
+    let s = test .before .before .before .before .before in
+    rw (c .unit-end .ensures) (turns _ _ _ _ _ _ _ (s .pre) (test .before .loop .inv) (test .loop-test .taken) (laid .lay-unit-result .ensures))
 
 same-length : tie.Need-same-length Inv-loop μ-loop
 same-length c = c .before .loop .inv .laid .kept
@@ -50,8 +57,7 @@ same-length c = c .before .loop .inv .laid .kept
 returns : tie.Need-returns Inv-loop μ-loop
 returns c =
     let s = c .before .before .before .before .before in
-    let a = s .args in
-    ends (now (a .s)) (a .d) (now (a .n1)) (now (a .losses)) (now (a .room)) (s .pre) (c .before .loop .inv) (c .loop-test .left)
+    ends _ _ _ _ _ _ _ (s .pre) (c .before .loop .inv) (c .loop-test .left)
 
 pub lay-unit-results-spec : {M : Type 1} → statement M
 lay-unit-results-spec =
@@ -61,7 +67,8 @@ lay-unit-results-spec =
     μ-loop
     loop-holds
     lay-unit-result-requires
-    add-s3
+    unit-end-requires
+    add-to
     add-i
     loop-less
     loop-again

@@ -22,14 +22,18 @@ refusal-requires c κs = search needs
 
 returns : tie.Need-returns
 unfolding endTaken next
-returns c = refuses _ _ (rw (c .refusal .ensures, ← (c .before .before .before .end-fields .ensures), c .before .enum-told2 .given .1))
+returns c =
+    let end-fields = c .before .before .before in
+    refuses _ _ (rw (c .refusal .ensures, ← (end-fields .end-fields .ensures), c .before .enum-told2 .given .1))
 
 closed-requires : tie.Need-closed-requires
 closed-requires c κs = search needs
 
 returns-2 : tie.Need-returns-2
 unfolding endTaken next
-returns-2 c = takes _ _ (rw (c .closed .ensures, sym (c .before .before .before .end-fields .ensures) ∙ ap endReply (c .before .enum-told .given .1)))
+returns-2 c =
+    let end-fields = c .before .before .before in
+    takes _ _ (rw (c .closed .ensures, sym (end-fields .end-fields .ensures) ∙ ap endReply (c .before .enum-told .given .1)))
 
 pub close-day-spec : {M : Type 1} → statement M
 close-day-spec =

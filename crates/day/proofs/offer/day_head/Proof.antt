@@ -24,7 +24,9 @@ head-in-requires c κs = search needs
 
 returns-3 : tie.Need-returns-3
 unfolding headFor need
-returns-3 c = simp (something (c .before .before .before .if1 .left), sym (c .before .before .is-possible .ensures) ∙ not-false _ (c .before .if2 .left)) (c .head-in .ensures)
+returns-3 c =
+    let test1 = c .before .before .before in
+    simp (something (test1 .if1 .left), sym (c .before .before .is-possible .ensures) ∙ not-false _ (c .before .if2 .left)) (c .head-in .ensures)
 
 pub day-head-spec : {M : Type 1} → statement M
 day-head-spec =

@@ -22,14 +22,18 @@ refusal-requires c κs = search needs
 
 returns : tie.Need-returns
 unfolding dayTaken next
-returns c = refuses _ _ (rw (c .refusal .ensures, ← (c .before .before .before .day-fields .ensures), c .before .enum-told .given .1))
+returns c =
+    let day-fields = c .before .before .before in
+    refuses _ _ (rw (c .refusal .ensures, ← (day-fields .day-fields .ensures), c .before .enum-told .given .1))
 
 opened-requires : tie.Need-opened-requires
 opened-requires c κs = search needs
 
 returns-2 : tie.Need-returns-2
 unfolding dayTaken next
-returns-2 c = takes _ _ (rw (c .opened .ensures, sym (c .before .before .before .before .day-fields .ensures) ∙ ap dayReply (c .before .before .d .given .1)))
+returns-2 c =
+    let day-fields = c .before .before .before .before in
+    takes _ _ (rw (c .opened .ensures, sym (day-fields .day-fields .ensures) ∙ ap dayReply (c .before .before .d .given .1)))
 
 pub open-day-spec : {M : Type 1} → statement M
 open-day-spec =

@@ -1,22 +1,28 @@
--- `take_block` meets its contract, answer by answer: the group record, and then what taking its units leaves.
-use mathlib.Core.Path.{sym, ap, _∙_}
+-- `take_block` meets its contract, answer by answer: the check's refusal, 12, and the result of a block that passed.
+use Prim.Native.Nat.{_≤_}
+use mathlib.Core.Path.{_≡_, sym, ap, _∙_}
+use mathlib.Core.Bool.{true, false}
+use native.Mathlib.Omega.{arith}
 use borrow.Author.Needs.{needs}
+use borrow.Author.Tests.{lt-leb, le-leb}
 use denote.Ref.{now}
-use Rattle.terms.specs.Reply.{next}
-use Rattle.records.specs.Answers.{groupReply}
-use Rattle.day.specs.Checking.{blockFieldsOf}
+use lib.ListN.{length}
+use Rattle.terms.specs.Reply.{is, need, next}
+use Rattle.writers.specs.Results.{resultLength}
+use Rattle.day.specs.declared.check.Block.{Block}
+use Rattle.day.specs.Blocks.{blockKey, blockCount}
+use Rattle.day.specs.Checking.{blockReply, blockFieldsOf}
 use Rattle.day.specs.Offers.{blockTaken}
-use Rattle.day.proofs.Read.{group-passed}
-use Rattle.day.proofs.Taking.{refuses-room}
-use Rattle.day.proofs.UnitsTaken.{offer-refused, offer-taken}
+use Rattle.day.proofs.Read.{read, passed}
+use Rattle.day.proofs.Taking.{refuses-room, takes-room, result-length}
 use Rattle.day.proofs.offer.take_block.Tie as tie
 use Rattle.day.proofs.offer.take_block.Statement.{statement}
 
-group-fields-requires : tie.Need-group-fields-requires
-group-fields-requires c κs = search needs
+block-fields-requires : tie.Need-block-fields-requires
+block-fields-requires c κs = search needs
 
-enum-known-g : tie.Need-enum-known-g
-enum-known-g c = search needs
+enum-known-b : tie.Need-enum-known-b
+enum-known-b c = search needs
 
 enum-told : tie.Need-enum-told
 enum-told c = search needs
@@ -25,63 +31,70 @@ refusal-requires : tie.Need-refusal-requires
 refusal-requires c κs = search needs
 
 returns : tie.Need-returns
-unfolding blockTaken blockFieldsOf next
-returns c = refuses-room _ _ _ _ (rw (c .refusal .ensures, ← (c .before .before .before .group-fields .ensures), c .before .enum-told .given .1))
+unfolding blockTaken next
+returns c =
+    let block-fields = c .before .before .before in
+    refuses-room _ _ _ _ (rw (c .refusal .ensures, ← (block-fields .block-fields .ensures), c .before .enum-told .given .1))
 
-take-units-requires : tie.Need-take-units-requires
-take-units-requires c κs =
-    let s = c .before .before .before .before .before .before .before .before in
-    let x = s .args in
-    let p = group-passed (now (x .s)) (x .day .«record») (x .day .last) (sym (c .before .before .before .before .group-fields .ensures) ∙ ap groupReply (c .before .before .g .given .1)) in
-    (s .pre .0, (p .value, rw (p .value) (p .most)))
+returns-2 : tie.Need-returns-2
+unfolding blockTaken next need
+returns-2 c =
+    let known = c .before .before .before in
+    let e = sym (known .before .before .block-fields .ensures) ∙ ap blockReply (known .b .given .1) in
+    refuses-room _ _ _ _ (rw (e, lt-leb (known .b .given .0 .0 .written) _ (c .if1 .taken)))
 
-enum-known-b : tie.Need-enum-known-b
-enum-known-b c = search needs
+cast-write-result : tie.Need-cast-write-result
+cast-write-result c = search needs
 
-enum-told-2 : tie.Need-enum-told-2
-enum-told-2 c = search needs
+write-result-requires : tie.Need-write-result-requires
+write-result-requires c κs =
+    let test = c .before .before in
+    let known = test .before .before .before in
+    let start = known .before .before .before .before .before in
+    let x = start .args in
+    let block = known .b .given .0 .0 in
+    let e : blockFieldsOf (x .day) (now (x .s)) ≡ is block = sym (known .before .before .block-fields .ensures) ∙ ap blockReply (known .b .given .1) in
+    let v = read (x .day) (now (x .s)) (start .pre .0) e .value in
+    let n : block .count ≡ blockCount (now (x .s)) = ap (λ (b : Block). b .count) v in
+    let w : block .written ≡ resultLength (block .count) = rw v in
+    (passed (x .day) (now (x .s)) (start .pre .0) e, (n, omega (arith, w, test .if1 .left)))
 
-refusal-requires-2 : tie.Need-refusal-requires-2
-refusal-requires-2 c κs = search needs
+counted-requires : tie.Need-counted-requires
+counted-requires c κs =
+    let write-result-arg = c .before .before .before .before in
+    let b = write-result-arg .before .before .before .before .before in
+    let start = b .before .before .before .before .before in
+    start .pre .1
 
 same-length : tie.Need-same-length
 same-length c = search needs
 
-returns-2 : tie.Need-returns-2
-returns-2 c =
-    let x = c .before .before .before .before .before .before .before .before .before .before .before .before .before .before .args in
-    let told = c .before .enum-told2 .given .1 in
-    let e = sym (c .before .before .before .before .before .before .before .before .before .before .group-fields .ensures) ∙ ap groupReply (c .before .before .before .before .before .before .before .before .g .given .1) in
-    rw (c .refusal2 .ensures, told) (offer-refused (x .day) (now (x .s)) e _ (rw told at (c .before .before .before .before .before .take-units .ensures)))
-
-counted-requires : tie.Need-counted-requires
-counted-requires c κs = c .before .before .before .before .before .before .before .before .before .before .before .before .before .before .before .pre .1
-
-same-length-2 : tie.Need-same-length-2
-same-length-2 c = search needs
-
 returns-3 : tie.Need-returns-3
+unfolding blockTaken next need
 returns-3 c =
-    let x = c .before .before .before .before .before .before .before .before .before .before .before .before .before .before .before .before .args in
-    let block = c .before .before .before .b .given in
-    let e = sym (c .before .before .before .before .before .before .before .before .before .before .before .before .group-fields .ensures) ∙ ap groupReply (c .before .before .before .before .before .before .before .before .before .before .g .given .1) in
-    rw (c .counted .ensures) (offer-taken (x .day) (now (x .s)) e (block .0 .0) (rw (block .1) at (c .before .before .before .before .before .before .before .take-units .ensures)))
+    let wrote = c .before .before .before .before in
+    let test = wrote .before .before .before in
+    let known = test .before .before .before in
+    let start = known .before .before .before .before .before in
+    let x = start .args in
+    let block = known .b .given .0 .0 in
+    let e : blockFieldsOf (x .day) (now (x .s)) ≡ is block = sym (known .before .before .block-fields .ensures) ∙ ap blockReply (known .b .given .1) in
+    let v = read (x .day) (now (x .s)) (start .pre .0) e .value in
+    let t = le-leb (block .written) (length (now (x .room))) (test .if1 .left) in
+    takes-room _ _ _ _ (rw (e, t, c .counted .ensures)) (result-length (now (x .s)) _ _ ∙ rw v) (wrote .write-result .ensures)
 
 pub take-block-spec : {M : Type 1} → statement M
 take-block-spec =
     tie.close
     (tie.spec
-    group-fields-requires
-    enum-known-g
+    block-fields-requires
+    enum-known-b
     enum-told
     refusal-requires
     returns
-    take-units-requires
-    enum-known-b
-    enum-told-2
-    refusal-requires-2
-    same-length
     returns-2
+    cast-write-result
+    write-result-requires
     counted-requires
-    same-length-2
+    same-length
     returns-3)

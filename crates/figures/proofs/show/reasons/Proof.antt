@@ -7,10 +7,10 @@ use Rattle.figures.proofs.show.reasons.Statement.{statement}
 use Rattle.figures.proofs.show.reasons.Tie as tie
 
 abbrev Inv-loop : tie.InvT-loop
-Inv-loop taken n0 n1 n2 n3 step-down step-up i₀ t11 i = i ≤ length n0
+Inv-loop taken n0 n1 n2 n3 step-down step-up i₀ t12 i = i ≤ length n0
 
 abbrev μ-loop : tie.MeasureT-loop
-μ-loop taken n0 n1 n2 n3 step-down step-up i₀ t11 i = length n0 - i
+μ-loop taken n0 n1 n2 n3 step-down step-up i₀ t12 i = length n0 - i
 
 slice-aggregate-text : tie.Need-slice-aggregate-text Inv-loop μ-loop
 slice-aggregate-text c = search needs
@@ -20,27 +20,6 @@ text-requires c κs = tt
 
 loop-holds : tie.Need-loop-holds Inv-loop μ-loop
 loop-holds c = omega arith
-
-mul-zero-outside : tie.Need-mul-zero-outside Inv-loop μ-loop
-mul-zero-outside c = omega arith
-
-shared-slice-copy-out-zero-outside : tie.Need-shared-slice-copy-out-zero-outside Inv-loop μ-loop
-shared-slice-copy-out-zero-outside c = omega arith
-
-mul-zero-outside-2 : tie.Need-mul-zero-outside-2 Inv-loop μ-loop
-mul-zero-outside-2 c = omega arith
-
-shared-slice-copy-out-zero-outside-2 : tie.Need-shared-slice-copy-out-zero-outside-2 Inv-loop μ-loop
-shared-slice-copy-out-zero-outside-2 c = omega arith
-
-mul-zero-outside-3 : tie.Need-mul-zero-outside-3 Inv-loop μ-loop
-mul-zero-outside-3 c = omega arith
-
-shared-slice-copy-out-zero-outside-3 : tie.Need-shared-slice-copy-out-zero-outside-3 Inv-loop μ-loop
-shared-slice-copy-out-zero-outside-3 c = omega arith
-
-zero-outside-requires : tie.Need-zero-outside-requires Inv-loop μ-loop
-zero-outside-requires c κs = tt
 
 mul-reason : tie.Need-mul-reason Inv-loop μ-loop
 mul-reason c = omega arith
@@ -54,6 +33,9 @@ mul-reason-2 c = omega arith
 shared-slice-copy-out-reason-2 : tie.Need-shared-slice-copy-out-reason-2 Inv-loop μ-loop
 shared-slice-copy-out-reason-2 c = omega arith
 
+mark-requires : tie.Need-mark-requires Inv-loop μ-loop
+mark-requires c κs = tt
+
 mul-reason-3 : tie.Need-mul-reason-3 Inv-loop μ-loop
 mul-reason-3 c = omega arith
 
@@ -66,8 +48,20 @@ mul-reason-4 c = omega arith
 shared-slice-copy-out-reason-4 : tie.Need-shared-slice-copy-out-reason-4 Inv-loop μ-loop
 shared-slice-copy-out-reason-4 c = omega arith
 
+mul-reason-5 : tie.Need-mul-reason-5 Inv-loop μ-loop
+mul-reason-5 c = omega arith
+
+shared-slice-copy-out-reason-5 : tie.Need-shared-slice-copy-out-reason-5 Inv-loop μ-loop
+shared-slice-copy-out-reason-5 c = omega arith
+
+mul-reason-6 : tie.Need-mul-reason-6 Inv-loop μ-loop
+mul-reason-6 c = omega arith
+
+shared-slice-copy-out-reason-6 : tie.Need-shared-slice-copy-out-reason-6 Inv-loop μ-loop
+shared-slice-copy-out-reason-6 c = omega arith
+
 reason-requires : tie.Need-reason-requires Inv-loop μ-loop
-reason-requires c κs = tt
+reason-requires c κs = search needs
 
 slice-aggregate-named : tie.Need-slice-aggregate-named Inv-loop μ-loop
 slice-aggregate-named c = search needs
@@ -99,21 +93,19 @@ reasons-spec =
     slice-aggregate-text
     text-requires
     loop-holds
-    mul-zero-outside
-    shared-slice-copy-out-zero-outside
-    mul-zero-outside-2
-    shared-slice-copy-out-zero-outside-2
-    mul-zero-outside-3
-    shared-slice-copy-out-zero-outside-3
-    zero-outside-requires
     mul-reason
     shared-slice-copy-out-reason
     mul-reason-2
     shared-slice-copy-out-reason-2
+    mark-requires
     mul-reason-3
     shared-slice-copy-out-reason-3
     mul-reason-4
     shared-slice-copy-out-reason-4
+    mul-reason-5
+    shared-slice-copy-out-reason-5
+    mul-reason-6
+    shared-slice-copy-out-reason-6
     reason-requires
     slice-aggregate-named
     cast-named

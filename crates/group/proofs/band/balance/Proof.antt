@@ -15,24 +15,26 @@ nominated-requires c κs = search needs
 
 sub-t5 : tie.Need-sub-t5
 sub-t5 c =
-    let s = c .before .before .before .before in
+    let nominated = c .before .before .before in
+    let s = nominated .before in
     let p = s .args .p .0 in
     let z = s .args .s3 .0 in
     let f : SFits w32 (negℤ p) = omega (zarith, neg p) in
     let g : SFits w32 z = omega zarith in
     let k : SFits w32 (toZ w32 (ofZ w32 (negℤ p)) -ℤ toZ w32 (ofZ w32 z)) = simp toZ-ofZ (omega (zarith, neg p, minus (negℤ p) z)) in
-    rw (c .before .before .before .nominated .ensures) k
+    rw (nominated .nominated .ensures) k
 
 returns : tie.Need-returns
 returns c =
-    let s = c .before .before .before .before in
+    let nominated = c .before .before .before in
+    let s = nominated .before in
     let p = s .args .p .0 in
     let z = s .args .s3 .0 in
     let f : SFits w32 (negℤ p) = omega (zarith, neg p) in
     let g : SFits w32 z = omega zarith in
     let h : SFits w32 (negℤ p -ℤ z) = omega (zarith, neg p, minus (negℤ p) z) in
     let k : toZ w32 (ofZ w32 (toZ w32 (ofZ w32 (negℤ p)) -ℤ toZ w32 (ofZ w32 z))) ≡ balanceOf p z = simp toZ-ofZ in
-    rw (c .before .before .before .nominated .ensures) k
+    rw (nominated .nominated .ensures) k
 
 pub balance-spec : {M : Type 1} → statement M
 balance-spec = tie.close (tie.spec nominated-requires sub-t5 returns)

@@ -2,8 +2,7 @@
 use mathlib.Core.Path.{_≡_, sym, _∙_}
 use mathlib.Core.Bool.{true, false}
 use borrow.Author.Needs.{needs}
-use mir.Facts.{toZ-ofZ}
-use Rattle.terms.specs.Checks.{isFlag}
+use Rattle.terms.specs.Quantities.{knownClass}
 use Rattle.terms.specs.Refusals.{check}
 use Rattle.terms.specs.declared.refusal.Checked.the-variants.{Fine}
 use Rattle.terms.specs.declared.refusal.Fault.the-variants as F
@@ -12,8 +11,8 @@ use Rattle.group.specs.Columns.{unitCheck}
 use Rattle.group.proofs.check.unit.Tie as tie
 use Rattle.group.proofs.check.unit.Statement.{statement}
 
-flag-requires : tie.Need-flag-requires
-flag-requires c κs = search needs
+class-requires : tie.Need-class-requires
+class-requires c κs = search needs
 
 enum-told : tie.Need-enum-told
 enum-told c = search needs
@@ -24,7 +23,8 @@ enum-told-2 c = search needs
 returns : tie.Need-returns
 unfolding unitCheck check
 returns c =
-    let q : isFlag (c .before .before .before .args .class) ≡ false = fails _ F.Class _ (sym (c .before .before .flag .ensures) ∙ c .enum-told2 .given .1) in
+    let of = c .before .before in
+    let q : knownClass (of .before .args .of-class) ≡ false = fails _ F.Class _ (sym (of .class .ensures) ∙ c .enum-told2 .given .1) in
     simp q
 
 amounts-requires : tie.Need-amounts-requires
@@ -33,10 +33,11 @@ amounts-requires c κs = search needs
 returns-2 : tie.Need-returns-2
 unfolding unitCheck check
 returns-2 c =
-    let s = c .before .before .before .before in
-    let p : isFlag (s .args .class) ≡ true = passes _ F.Class Fine (sym (c .before .before .before .flag .ensures) ∙ c .before .enum-told .given .1) .0 in
-    simp p (simp (toZ-ofZ (s .fits .n0), toZ-ofZ (s .fits .pc), toZ-ofZ (s .fits .step-down), toZ-ofZ (s .fits .step-up)) at (c .amounts .ensures))
+    let told = c .before in
+    let of = told .before .before in
+    let p : knownClass (of .before .args .of-class) ≡ true = passes _ F.Class Fine (sym (of .class .ensures) ∙ told .enum-told .given .1) .0 in
+    simp p (c .amounts .ensures)
 
 pub unit-spec : {M : Type 1} → statement M
 unit-spec =
-    tie.close (tie.spec flag-requires enum-told enum-told-2 returns amounts-requires returns-2)
+    tie.close (tie.spec class-requires enum-told enum-told-2 returns amounts-requires returns-2)

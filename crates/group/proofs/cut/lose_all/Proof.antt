@@ -1,36 +1,35 @@
 -- `lose_all` meets its contract: after i turns the first i places are what their units lose, and the others are as they were.
-use Prim.Native.Nat.{ℕ, suc, _-_, _≤_, _<_}
-use mathlib.Core.Path.{_≡_, refl, ap, _∙_}
+use Prim.Native.Nat.{ℕ, _-_}
+use mathlib.Core.Path.{_≡_}
 use mathlib.Core.Bool.{true}
-use mathlib.Core.List.{List, _++_}
+use mathlib.Core.List.{List}
 use native.Mathlib.Omega.{arith}
 use borrow.Author.Needs.{needs}
 use denote.Ref.{now}
-use lib.ListN.{length, getD, drop, length-set}
-use lib.Seq.{drop-cons, getD-at}
+use lib.IntN.{ℤ}
+use lib.ListN.{length, getD}
 use mir.Syntax.{w32}
 use mir.Val.{SFits}
 use mir.Facts.{toZ-ofZ}
-use Rattle.numbers.specs.Column.{column, at}
-use Rattle.numbers.proofs.Columns.{column-length, column-none, column-more, column-all}
-use Rattle.group.specs.Asked.{lossOf}
+use Rattle.numbers.specs.Column.{at}
+use Rattle.terms.specs.declared.quantity.Direction.{Direction}
+use Rattle.group.specs.Inner.{lossOf}
+use Rattle.group.proofs.Running.{Filled, filled-start, filled-next, filled-turn, filled-end}
 use Rattle.group.proofs.cut.lose_all.Tie as tie
 use Rattle.group.proofs.cut.lose_all.Statement.{statement}
 
+-- what the unit of an index loses, beside the cuts
+abbrev lossIn : Direction → List ℤ → List ℕ → List ℕ → ℕ → ℕ
+lossIn d n1 class cuts i = lossOf d true (getD class i 0) (at n1 i) (getD cuts i 0)
+
 abbrev Inv-loop : tie.InvT-loop
-Inv-loop d n1 class losses₀ i₀ losses i =
-    let f : ℕ → ℕ = λ j. lossOf d true (getD class j 0) (at n1 j) (getD losses₀ j 0) in
-    (i ≤ length n1) × ((length losses ≡ length losses₀) × (losses ≡ column i f ++ drop i losses₀))
+Inv-loop d n1 class losses₀ i₀ losses i = Filled (lossIn d n1 class losses₀) (length n1) losses₀ losses i
 
 abbrev μ-loop : tie.MeasureT-loop
 μ-loop d n1 class losses₀ i₀ losses i = length n1 - i
 
--- the place that is stored next is as it was
-next : (f : ℕ → ℕ) (i : ℕ) (l : List ℕ) → i < length l → getD (column i f ++ drop i l) i 0 ≡ getD l i 0
-next f i l h = rw (drop-cons l i 0) (getD-at (column i f) (getD l i 0) (drop (suc i) l) 0 i (column-length f i))
-
 loop-holds : tie.Need-loop-holds Inv-loop μ-loop
-loop-holds c = (omega arith, (refl, column-none _ (now (c .before .before .args .losses))))
+loop-holds c = filled-start _ _ _
 
 shared-slice-read-loss : tie.Need-shared-slice-read-loss Inv-loop μ-loop
 shared-slice-read-loss c = omega arith
@@ -64,24 +63,25 @@ loop-less c = omega arith
 
 loop-again : tie.Need-loop-again Inv-loop μ-loop
 loop-again c =
-    let l = c .before .before .before .before .before .loop in
-    let a = c .before .before .before .before .before .before .before .before .args in
-    let f : SFits w32 (at (now (a .n1)) (l .i)) = record { sfits = c .before .before .loss-arg .given } in
-    let lost : ℕ → ℕ = λ j. lossOf (a .d) true (getD (now (a .class)) j 0) (at (now (a .n1)) j) (getD (now (a .losses)) j 0) in
-    let u : c .loss .result ≡ lossOf (a .d) true (getD (now (a .class)) (l .i) 0) (at (now (a .n1)) (l .i)) (getD (l .losses) (l .i) 0) = simp toZ-ofZ at (c .loss .ensures) in
-    let w : getD (l .losses) (l .i) 0 ≡ getD (now (a .losses)) (l .i) 0 = ap (λ (m : List ℕ). getD m (l .i) 0) (l .inv .1 .1) ∙ next lost (l .i) (now (a .losses)) (omega arith) in
-    let v : c .loss .result ≡ lost (l .i) = u ∙ ap (lossOf (a .d) true (getD (now (a .class)) (l .i) 0) (at (now (a .n1)) (l .i))) w in
-    (omega arith, (simp length-set (l .inv .1 .0), rw (v, l .inv .1 .1) (column-more _ (l .i) (now (a .losses)) 0 (omega arith))))
+    let read = c .before .before in
+    let test = read .before .before in
+    let l = test .before in
+    let s = l .before .before .before in
+    let f : SFits w32 (at (now (s .args .n1)) (l .loop .i)) = record { sfits = read .loss-arg .given } in
+    let e = simp toZ-ofZ at (c .loss .ensures) in
+    let v : c .loss .result ≡ lossIn (s .args .d) (now (s .args .n1)) (now (s .args .class)) (now (s .args .losses)) (l .loop .i) =
+    rw (filled-next (l .loop .inv) (s .pre .1) 0 (test .loop-test .taken)) at e
+    in
+    filled-turn (l .loop .inv) (s .pre .1) 0 v (test .loop-test .taken)
 
 same-length : tie.Need-same-length Inv-loop μ-loop
 same-length c = omega arith
 
 returns : tie.Need-returns Inv-loop μ-loop
 returns c =
-    let l = c .before .loop in
-    let a = c .before .before .before .before .args in
-    let e : l .i ≡ length (now (a .n1)) = omega arith in
-    l .inv .1 .1 ∙ rw e (column-all _ (now (a .losses)) (length (now (a .n1))) (omega arith))
+    let l = c .before in
+    let start = l .before .before .before in
+    filled-end (l .loop .inv) (start .pre .1) (c .loop-test .left)
 
 pub lose-all-spec : {M : Type 1} → statement M
 lose-all-spec =

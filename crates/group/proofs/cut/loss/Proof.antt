@@ -2,7 +2,7 @@
 use mathlib.Core.Path.{sym, _∙_}
 use borrow.Author.Needs.{needs}
 use mir.Facts.{toZ-ofZ}
-use Rattle.group.specs.Asked.{lossOf}
+use Rattle.group.specs.Inner.{lossOf}
 use Rattle.group.proofs.cut.loss.Tie as tie
 use Rattle.group.proofs.cut.loss.Statement.{statement}
 

@@ -18,8 +18,9 @@ same-length c = search needs
 
 returns : tie.Need-returns
 returns c =
-    let a = c .before .before .before .before .before .before .before .args in
-    let e = c .before .before .before .sizes-into .ensures in
+    let first = c .before .before .before in
+    let a = first .before .before .before .before .args in
+    let e = first .sizes-into .ensures in
     record {
       whole = sym (lt-leb (sum (sizesOf (a .d) NotEnabled (now (a .n1)) (now (a .class)))) (a .c) (omega (arith, e .0, c .if1 .taken)));
       borne = e .1;
@@ -35,11 +36,14 @@ same-length-2 c = search needs
 
 returns-2 : tie.Need-returns-2
 returns-2 c =
-    let a = c .before .before .before .before .before .before .before .before .before .before .before .args in
-    let e = c .before .before .before .before .before .before .before .sizes-into .ensures in
-    let f = c .before .before .sizes-into2 .ensures in
+    let second = c .before .before in
+    let test = second .before .before in
+    let first = test .before .before .before in
+    let a = first .before .before .before .before .args in
+    let e = first .sizes-into .ensures in
+    let f = second .sizes-into2 .ensures in
     record {
-      whole = sym (le-leb (sum (sizesOf (a .d) NotEnabled (now (a .n1)) (now (a .class)))) (a .c) (omega (arith, e .0, c .before .before .before .before .if1 .left)));
+      whole = sym (le-leb (sum (sizesOf (a .d) NotEnabled (now (a .n1)) (now (a .class)))) (a .c) (omega (arith, e .0, test .if1 .left)));
       borne = f .1;
       total = f .0 ∙ ap sum (sym (f .1));
       rest = omega (arith, e .0);

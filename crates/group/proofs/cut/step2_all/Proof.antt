@@ -1,83 +1,42 @@
--- `step2_all` meets its contract: what it takes off n1 is the column of losses, written to the first places of 64.
-use Prim.Native.Nat.{ℕ}
-use mathlib.Core.Path.{_≡_, sym, ap, ap₂, _∙_, subst}
-use mathlib.Core.List.{List}
+-- `step2_all` meets its contract: with no excess step 2 leaves every unit, and else it cuts.
+use mathlib.Core.Path.{_≡_, sym, _∙_}
 use borrow.Author.Needs.{needs}
 use denote.Ref.{now}
-use lib.ListN.{length}
-use lib.Seq.{length-take-le}
+use lib.IntN.{pos}
+use mir.Syntax.{w32}
 use mir.Facts.{toZ-ofZ}
-use Rattle.terms.specs.declared.quantity.Direction.{Direction}
-use Rattle.group.specs.Steps.{directionOf}
-use Rattle.group.specs.Asked.{lossesOf, left, Lost}
-use Rattle.group.proofs.Losses.{losses-length, left-is, lost, lent, room, lent-again}
+use Rattle.numbers.proofs.Integers.{ofZ-inj, zero-fits}
+use Rattle.group.proofs.Uncut.{uncut}
 use Rattle.group.proofs.cut.step2_all.Tie as tie
 use Rattle.group.proofs.cut.step2_all.Statement.{statement}
 
-array-borrow-prefix-losses : tie.Need-array-borrow-prefix-losses
-array-borrow-prefix-losses c = search needs
-
-slice-aggregate-losses-into : tie.Need-slice-aggregate-losses-into
-slice-aggregate-losses-into c = sym (length-take-le _ _ (c .before .before .pre .0 .classed .few))
-
-losses-into-requires : tie.Need-losses-into-requires
-losses-into-requires c κs =
-    let s = c .before .before in
-    (rw (toZ-ofZ (s .fits .e)) (s .pre .0), lent (s .pre .0 .classed .few))
-
-direction-requires : tie.Need-direction-requires
-direction-requires c κs = search needs
-
--- what is written, and to how many places
-written : (c : tie.After-losses-into) → c .losses-into .last .1 .1 .1 .0 ≡ lossesOf (c .before .before .before .args .e) (now (c .before .before .before .args .n1)) (now (c .before .before .before .args .class))
-written c = rw (toZ-ofZ (c .before .before .before .fits .e)) at (c .losses-into .ensures)
-
-places : (c : tie.After-losses-into) → length (c .losses-into .last .1 .1 .1 .0) ≡ length (now (c .before .before .before .args .n1))
-places c =
-    let a = c .before .before .before .args in
-    ap length (written c) ∙ losses-length (a .e) (now (a .n1)) (now (a .class))
-
-array-share-prefix-losses : tie.Need-array-share-prefix-losses
-array-share-prefix-losses c =
-    let b = c .before .before in
-    room (b .losses-into .last .1 .1 .1 .0) (places b)
-
-slice-aggregate-take-off : tie.Need-slice-aggregate-take-off
-slice-aggregate-take-off c =
-    let b = c .before .before .before in
-    sym (ap length (lent-again (b .losses-into .last .1 .1 .1 .0) (places b)) ∙ places b)
-
-take-off-requires : tie.Need-take-off-requires
-take-off-requires c κs =
-    let b = c .before .before .before .before in
-    let s = b .before .before .before in
-    let a = s .args in
-    subst (λ (l : List ℕ). Lost (now (a .n1)) l (now (a .n2))) (sym (lent-again (b .losses-into .last .1 .1 .1 .0) (places b) ∙ written b))
-    (lost (a .e) (now (a .n1)) (now (a .class)) (s .pre .0) (s .pre .1))
+leave-requires : tie.Need-leave-requires
+leave-requires c κs = search needs
 
 same-length : tie.Need-same-length
 same-length c = search needs
 
 returns : tie.Need-returns
 returns c =
-    let b = c .before .before .before .before .before .before in
-    let s = b .before .before .before in
-    let a = s .args in
-    let d : c .before .before .before .before .direction .result ≡ directionOf (a .e) = simp (toZ-ofZ (s .fits .e)) at (c .before .before .before .before .direction .ensures) in
-    c .before .take-off .ensures
-    ∙ ap₂ (λ (x : Direction) (l : List ℕ). left x (now (a .n1)) l) d (lent-again (b .losses-into .last .1 .1 .1 .0) (places b) ∙ written b)
-    ∙ left-is (a .e) (now (a .n1)) (now (a .class))
+    let call = c .before in
+    let test = call .before .before in
+    let s = test .before .before in
+    let z : s .args .e ≡ pos 0 = ofZ-inj w32 (s .args .e) (pos 0) (s .fits .e) (zero-fits w32) (test .if1 .taken) in
+    rw z (call .leave .ensures ∙ sym (uncut (now (s .args .n1)) (now (s .args .class))))
+
+cut-off-requires : tie.Need-cut-off-requires
+cut-off-requires c κs = search needs
+
+same-length-2 : tie.Need-same-length-2
+same-length-2 c = search needs
+
+returns-2 : tie.Need-returns-2
+returns-2 c =
+    let call = c .before in
+    let s = call .before .before .before .before in
+    rw (toZ-ofZ (s .fits .e)) at (call .cut-off .ensures)
 
 pub step2-all-spec : {M : Type 1} → statement M
 step2-all-spec =
     tie.close
-    (tie.spec
-    array-borrow-prefix-losses
-    slice-aggregate-losses-into
-    losses-into-requires
-    direction-requires
-    array-share-prefix-losses
-    slice-aggregate-take-off
-    take-off-requires
-    same-length
-    returns)
+    (tie.spec leave-requires same-length returns cut-off-requires same-length-2 returns-2)

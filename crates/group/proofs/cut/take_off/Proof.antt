@@ -1,30 +1,34 @@
 -- `take_off` meets its contract: after i turns the first i places are brought nearer by what their units lose.
-use Prim.Native.Nat.{_-_, _≤_}
-use mathlib.Core.Path.{_≡_, refl, _∙_}
-use mathlib.Core.List.{_++_}
+use Prim.Native.Nat.{ℕ, _-_}
+use mathlib.Core.Path.{_≡_}
+use mathlib.Core.List.{List}
 use native.Mathlib.Omega.{arith}
 use denote.Ref.{now}
-use lib.IntN.{pos}
-use lib.ListN.{length, getD, drop, length-set}
+use lib.IntN.{ℤ, pos}
+use lib.ListN.{length, getD}
 use mir.Syntax.{w32}
 use mir.Val.{SFits, toZ, ofZ}
 use mir.Facts.{toZ-ofZ}
-use Rattle.numbers.specs.Column.{column, at}
-use Rattle.numbers.proofs.Columns.{column-none, column-more, column-all}
+use Rattle.numbers.specs.Column.{at}
+use Rattle.terms.specs.declared.quantity.Direction.{Direction}
 use Rattle.group.specs.Steps.{nearerBy}
-use Rattle.group.specs.Asked.{left}
+use Rattle.group.specs.Inner.{leftBy}
+use Rattle.group.proofs.Running.{Filled, filled-start, filled-turn, filled-end}
 use Rattle.group.proofs.cut.take_off.Tie as tie
 use Rattle.group.proofs.cut.take_off.Statement.{statement}
 
+-- what is left of the unit of an index
+abbrev leftAt : Direction → List ℤ → List ℕ → ℕ → ℤ
+leftAt d n1 losses i = nearerBy d (at n1 i) (getD losses i 0)
+
 abbrev Inv-loop : tie.InvT-loop
-Inv-loop d n1 losses n2₀ i₀ n2 i =
-    (i ≤ length n1) × ((length n2 ≡ length n2₀) × (n2 ≡ column i (λ j. nearerBy d (at n1 j) (getD losses j 0)) ++ drop i n2₀))
+Inv-loop d n1 losses n2₀ i₀ n2 i = Filled (leftAt d n1 losses) (length n1) n2₀ n2 i
 
 abbrev μ-loop : tie.MeasureT-loop
 μ-loop d n1 losses n2₀ i₀ n2 i = length n1 - i
 
 loop-holds : tie.Need-loop-holds Inv-loop μ-loop
-loop-holds c = (omega arith, (refl, column-none _ (now (c .before .args .n2))))
+loop-holds c = filled-start _ _ _
 
 mul-nearer : tie.Need-mul-nearer Inv-loop μ-loop
 mul-nearer c = omega arith
@@ -59,25 +63,25 @@ loop-less c = omega arith
 
 loop-again : tie.Need-loop-again Inv-loop μ-loop
 loop-again c =
-    let l = c .before .before .before .before .loop in
-    let a = c .before .before .before .before .before .before .args in
-    let f : SFits w32 (at (now (a .n1)) (l .i)) = record { sfits = c .before .before .nearer-arg .given } in
+    let read = c .before .before in
+    let test = read .before in
+    let l = test .before in
+    let s = l .before .before in
+    let f : SFits w32 (at (now (s .args .n1)) (l .loop .i)) = record { sfits = read .nearer-arg .given } in
     let r : SFits w32 (c .nearer .result) = record { sfits = c .nearer .ok } in
-    let v : toZ w32 (ofZ w32 (c .nearer .result)) ≡ nearerBy (a .d) (at (now (a .n1)) (l .i)) (getD (now (a .losses)) (l .i) 0) =
+    let v : toZ w32 (ofZ w32 (c .nearer .result)) ≡ leftAt (s .args .d) (now (s .args .n1)) (now (s .args .losses)) (l .loop .i) =
     simp toZ-ofZ (simp toZ-ofZ at (c .nearer .ensures))
     in
-    (omega arith, (simp length-set (l .inv .1 .0), rw (v, l .inv .1 .1) (column-more _ (l .i) (now (a .n2)) (pos 0) (omega arith))))
+    filled-turn (l .loop .inv) (s .pre .places) (pos 0) v (test .loop-test .taken)
 
 same-length : tie.Need-same-length Inv-loop μ-loop
 same-length c = omega arith
 
 returns : tie.Need-returns Inv-loop μ-loop
-unfolding left
+unfolding leftBy
 returns c =
-    let l = c .before .loop in
-    let a = c .before .before .before .args in
-    let e : l .i ≡ length (now (a .n1)) = omega arith in
-    l .inv .1 .1 ∙ rw e (column-all _ (now (a .n2)) (length (now (a .n1))) (omega arith))
+    let l = c .before in
+    filled-end (l .loop .inv) (l .before .before .pre .places) (c .loop-test .left)
 
 pub take-off-spec : {M : Type 1} → statement M
 take-off-spec =

@@ -1,37 +1,34 @@
--- `step1_all` meets its contract: after i turns the first i places are those of step 1, and s1 is their sum.
-use Prim.Native.Nat.{ℕ, _-_, _≤_}
-use mathlib.Core.Path.{_≡_, refl, _∙_}
-use mathlib.Core.List.{_++_}
+-- `step1_all` meets its contract: it fills the column of step 1 and sums it.
+use Prim.Native.Nat.{_-_}
+use mathlib.Core.Path.{_≡_}
 use native.Mathlib.Omega.{arith}
 use borrow.Author.Needs.{needs}
 use denote.Ref.{now}
-use lib.IntN.{ℤ, pos}
-use lib.ListN.{length, drop, length-set}
+use lib.ListN.{length}
 use mir.Syntax.{w32}
 use mir.Val.{SFits, toZ, ofZ}
 use mir.Facts.{toZ-ofZ}
-use Rattle.numbers.specs.Range.{Within}
-use Rattle.numbers.specs.Column.{column, at}
-use Rattle.numbers.specs.Sum.{sumZ}
-use Rattle.numbers.proofs.Columns.{column-more, column-all}
-use Rattle.group.specs.Steps.{step1Of}
+use Rattle.numbers.specs.Column.{at}
 use Rattle.group.specs.Group.{step1All}
-use Rattle.group.proofs.Running.{run-fits, next-fits, run-more}
-use Rattle.group.proofs.Ranges.{step1-within}
-use Rattle.group.proofs.judge.step1_all.Tie as tie
+use Rattle.group.proofs.Running.{Run, run-start, run-adds, run-turn, run-end}
+use Rattle.group.proofs.Ranges.{firstAt, first-small}
 use Rattle.group.proofs.judge.step1_all.Statement.{statement}
+use Rattle.group.proofs.judge.step1_all.Tie as tie
 
 abbrev Inv-loop : tie.InvT-loop
-Inv-loop n0 step-down step-up n1₀ s1₀ i₀ n1 s1 i =
-    let f : ℕ → ℤ = λ k. step1Of (at n0 k) (at step-down k) (at step-up k) in
-    (i ≤ length n0) × ((length n1 ≡ length n1₀) × ((n1 ≡ column i f ++ drop i n1₀) × (s1 ≡ ofZ w32 (sumZ (column i f)))))
+Inv-loop n0 step-down step-up n1₀ s1₀ i₀ n1 s1 i = Run (firstAt n0 step-down step-up) (length n0) n1₀ n1 s1 i
 
 abbrev μ-loop : tie.MeasureT-loop
 μ-loop n0 step-down step-up n1₀ s1₀ i₀ n1 s1 i = length n0 - i
 
 loop-holds : tie.Need-loop-holds Inv-loop μ-loop
-unfolding sumZ column
-loop-holds c = (omega arith, (refl, (refl, refl)))
+loop-holds c = run-start _ _ _
+
+mul-t9 : tie.Need-mul-t9 Inv-loop μ-loop
+mul-t9 c = omega arith
+
+shared-slice-copy-out-t12 : tie.Need-shared-slice-copy-out-t12 Inv-loop μ-loop
+shared-slice-copy-out-t12 c = omega arith
 
 mul-step1 : tie.Need-mul-step1 Inv-loop μ-loop
 mul-step1 c = omega arith
@@ -45,12 +42,6 @@ mul-step1-2 c = omega arith
 shared-slice-copy-out-step1-2 : tie.Need-shared-slice-copy-out-step1-2 Inv-loop μ-loop
 shared-slice-copy-out-step1-2 c = omega arith
 
-mul-step1-3 : tie.Need-mul-step1-3 Inv-loop μ-loop
-mul-step1-3 c = omega arith
-
-shared-slice-copy-out-step1-3 : tie.Need-shared-slice-copy-out-step1-3 Inv-loop μ-loop
-shared-slice-copy-out-step1-3 c = omega arith
-
 step1-requires : tie.Need-step1-requires Inv-loop μ-loop
 step1-requires c κs = search needs
 
@@ -60,22 +51,25 @@ mul-first c = omega arith
 slice-set-from-first : tie.Need-slice-set-from-first Inv-loop μ-loop
 slice-set-from-first c = omega arith
 
+-- what is stored at a turn is step 1 of its unit
+first-is : (c : tie.After-step1 Inv-loop μ-loop) → let l = c .before .before .before .before .before in let a = l .before .args in
+    toZ w32 (ofZ w32 (c .step1 .result)) ≡ firstAt (now (a .n0)) (now (a .step-down)) (now (a .step-up)) (l .loop .i)
+first-is c =
+    let last = c .before in
+    let l = last .before .before .before .before in
+    let a = l .before .args in
+    let f : SFits w32 (at (now (a .step-down)) (l .loop .i)) = record { sfits = last .before .before .t12 .given } in
+    let g : SFits w32 (at (now (a .step-up)) (l .loop .i)) = record { sfits = last .before .step1-arg .given } in
+    let h : SFits w32 (at (now (a .n0)) (l .loop .i)) = record { sfits = last .step1-arg2 .given } in
+    let r : SFits w32 (c .step1 .result) = record { sfits = c .step1 .ok } in
+    simp toZ-ofZ (simp toZ-ofZ at (c .step1 .ensures))
+
 add-s1 : tie.Need-add-s1 Inv-loop μ-loop
 add-s1 c =
-    let b = c .before in
-    let l = b .before .before .before .before .loop in
-    let s = b .before .before .before .before .before in
-    let a = s .args in
-    let f : SFits w32 (at (now (a .n0)) (l .i)) = record { sfits = b .before .before .step1-arg .given } in
-    let g : SFits w32 (at (now (a .step-down)) (l .i)) = record { sfits = b .before .step1-arg2 .given } in
-    let h : SFits w32 (at (now (a .step-up)) (l .i)) = record { sfits = b .step1-arg3 .given } in
-    let r : SFits w32 (c .step1 .result) = record { sfits = c .step1 .ok } in
-    let first : ℕ → ℤ = λ k. step1Of (at (now (a .n0)) k) (at (now (a .step-down)) k) (at (now (a .step-up)) k) in
-    let v : toZ w32 (ofZ w32 (c .step1 .result)) ≡ first (l .i) = simp toZ-ofZ (simp toZ-ofZ at (c .step1 .ensures)) in
-    let small : (k : ℕ) → Within 1000000 (first k) =
-    λ k. step1-within 1000000 (at (now (a .n0)) k) (at (now (a .step-down)) k) (at (now (a .step-up)) k) (s .pre .small k) (s .pre .down-small k) (s .pre .up-small k)
-    in
-    rw (l .inv .1 .1 .1, v, toZ-ofZ (run-fits first small (l .i) (omega (arith, s .pre .few)))) (next-fits first small (l .i) (omega (arith, s .pre .few)))
+    let test = c .before .before .before .before in
+    let l = test .before in
+    let s = l .before in
+    run-adds (first-small (s .pre)) (s .pre .few) (l .loop .inv) (first-is c) (test .loop-test .taken)
 
 add-i : tie.Need-add-i Inv-loop μ-loop
 add-i c = omega arith
@@ -85,28 +79,10 @@ loop-less c = omega arith
 
 loop-again : tie.Need-loop-again Inv-loop μ-loop
 loop-again c =
-    let b = c .before in
-    let l = b .before .before .before .before .loop in
-    let s = b .before .before .before .before .before in
-    let a = s .args in
-    let f : SFits w32 (at (now (a .n0)) (l .i)) = record { sfits = b .before .before .step1-arg .given } in
-    let g : SFits w32 (at (now (a .step-down)) (l .i)) = record { sfits = b .before .step1-arg2 .given } in
-    let h : SFits w32 (at (now (a .step-up)) (l .i)) = record { sfits = b .step1-arg3 .given } in
-    let r : SFits w32 (c .step1 .result) = record { sfits = c .step1 .ok } in
-    let first : ℕ → ℤ = λ k. step1Of (at (now (a .n0)) k) (at (now (a .step-down)) k) (at (now (a .step-up)) k) in
-    let v : toZ w32 (ofZ w32 (c .step1 .result)) ≡ first (l .i) = simp toZ-ofZ (simp toZ-ofZ at (c .step1 .ensures)) in
-    let small : (k : ℕ) → Within 1000000 (first k) =
-    λ k. step1-within 1000000 (at (now (a .n0)) k) (at (now (a .step-down)) k) (at (now (a .step-up)) k) (s .pre .small k) (s .pre .down-small k) (s .pre .up-small k)
-    in (
-      omega arith,
-      (
-        simp length-set (l .inv .1 .0),
-        (
-          rw (v, l .inv .1 .1 .0) (column-more _ (l .i) (now (a .n1)) (pos 0) (omega arith)),
-          rw (l .inv .1 .1 .1, v, toZ-ofZ (run-fits first small (l .i) (omega (arith, s .pre .few))), run-more first (l .i)),
-        ),
-      ),
-    )
+    let test = c .before .before .before .before in
+    let l = test .before in
+    let s = l .before in
+    run-turn (first-small (s .pre)) (s .pre .few) (l .loop .inv) (first-is c) (test .loop-test .taken) (s .pre .places)
 
 same-length : tie.Need-same-length Inv-loop μ-loop
 same-length c = omega arith
@@ -114,17 +90,9 @@ same-length c = omega arith
 returns : tie.Need-returns Inv-loop μ-loop
 unfolding step1All
 returns c =
-    let l = c .before .loop in
-    let s = c .before .before in
-    let a = s .args in
-    let first : ℕ → ℤ = λ k. step1Of (at (now (a .n0)) k) (at (now (a .step-down)) k) (at (now (a .step-up)) k) in
-    let small : (k : ℕ) → Within 1000000 (first k) =
-    λ k. step1-within 1000000 (at (now (a .n0)) k) (at (now (a .step-down)) k) (at (now (a .step-up)) k) (s .pre .small k) (s .pre .down-small k) (s .pre .up-small k)
-    in
-    let e : l .i ≡ length (now (a .n0)) = omega arith in (
-      rw (l .inv .1 .1 .1) (toZ-ofZ (run-fits first small (l .i) (omega (arith, s .pre .few))) ∙ rw e),
-      l .inv .1 .1 .0 ∙ rw e (column-all _ (now (a .n1)) (length (now (a .n0))) (omega arith)),
-    )
+    let l = c .before in
+    let s = l .before in
+    run-end (first-small (s .pre)) (s .pre .few) (l .loop .inv) (c .loop-test .left) (s .pre .places)
 
 pub step1-all-spec : {M : Type 1} → statement M
 step1-all-spec =
@@ -133,12 +101,12 @@ step1-all-spec =
     Inv-loop
     μ-loop
     loop-holds
+    mul-t9
+    shared-slice-copy-out-t12
     mul-step1
     shared-slice-copy-out-step1
     mul-step1-2
     shared-slice-copy-out-step1-2
-    mul-step1-3
-    shared-slice-copy-out-step1-3
     step1-requires
     mul-first
     slice-set-from-first

@@ -22,10 +22,12 @@ same-length c = search needs
 
 returns : tie.Need-returns
 returns c =
-    let s = c .before .before .before .before .before .before .before .before .before in
+    let lay-number = c .before .before in
+    let lay-u8 = lay-number .before .before .before .before in
+    let s = lay-u8 .before .before .before in
     let a = s .args in
-    let space = one-byte (now (a .out)) (a .at) 32 (c .before .before .before .before .before .before .lay-u8 .ensures) in
-    then (now (a .out)) (a .at) 1 (length (decimal (a .n))) (a .at + 1) (c .before .before .lay-number .result) (s .pre) space (c .before .before .lay-number .ensures)
+    let space = one-byte (now (a .out)) (a .at) 32 (lay-u8 .lay-u8 .ensures) in
+    then (now (a .out)) (a .at) 1 (length (decimal (a .n))) (a .at + 1) (lay-number .lay-number .result) (s .pre) space (lay-number .lay-number .ensures)
 
 pub lay-field-spec : {M : Type 1} → statement M
 lay-field-spec =

@@ -6,6 +6,7 @@ use lib.Signed.{ltZ}
 use mir.Facts.{toZ-ofZ}
 use denote.Ref.{now}
 use native.Mathlib.Omega.{arith}
+use Rattle.listing.specs.Lines.{u32Field, i32Field}
 use Rattle.listing.proofs.Parts.{within}
 use Rattle.listing.proofs.Signs.{negative, natural}
 use borrow.Author.Needs.{needs}
@@ -23,11 +24,12 @@ same-length c = search needs
 
 returns : tie.Need-returns
 returns c =
-    let s = c .before .before .before .before .before .before .before in
+    let test = c .before .before .before .before in
+    let s = test .before .before .before in
     let z = s .args .z in
     let f = s .fits .z in
-    let e : c .before .before .before .before .before .magnitude .result ≡ natAbs z = simp toZ-ofZ at (c .before .before .before .before .before .magnitude .ensures) in
-    let t : ltZ z (pos 0) ≡ true = simp toZ-ofZ at (c .before .before .before .before .if1 .taken) in
+    let e : test .before .magnitude .result ≡ natAbs z = simp toZ-ofZ at (test .before .magnitude .ensures) in
+    let t : ltZ z (pos 0) ≡ true = simp toZ-ofZ at (test .if1 .taken) in
     let d = rw e at (c .before .before .lay-negative .ensures) in
     rw (negative z t) d
 
@@ -39,13 +41,14 @@ same-length-2 c = search needs
 
 returns-2 : tie.Need-returns-2
 returns-2 c =
-    let s = c .before .before .before .before .before .before .before in
+    let test = c .before .before .before .before in
+    let s = test .before .before .before in
     let z = s .args .z in
     let f = s .fits .z in
-    let e : c .before .before .before .before .before .magnitude .result ≡ natAbs z = simp toZ-ofZ at (c .before .before .before .before .before .magnitude .ensures) in
-    let t : ltZ z (pos 0) ≡ false = simp toZ-ofZ at (c .before .before .before .before .if1 .left) in
+    let e : test .before .magnitude .result ≡ natAbs z = simp toZ-ofZ at (test .before .magnitude .ensures) in
+    let t : ltZ z (pos 0) ≡ false = simp toZ-ofZ at (test .if1 .left) in
     let d = rw e at (c .before .before .lay-u32-field .ensures) in
-    rw (natural z t) (within (now (s .args .out)) (s .args .at) 11 12 (c .before .before .lay-u32-field .result) (omega (arith, d .few)) d)
+    rw (natural z t) (within (now (s .args .out)) (s .args .at) u32Field i32Field (c .before .before .lay-u32-field .result) (omega (arith, d .few)) d)
 
 pub lay-i32-field-spec : {M : Type 1} → statement M
 lay-i32-field-spec =

@@ -27,7 +27,9 @@ add-lay-number c = search needs
 
 lay-number-requires : tie.Need-lay-number-requires
 lay-number-requires c κs =
-    let n = c .before .before .before .before .before .before .before .before .before .before .args .size in
+    let known = c .before .before .before .before .before in
+    let start = known .before .before .before .before .before in
+    let n = start .args .size in
     omega (arith, digits-of n (omega arith))
 
 same-length : tie.Need-same-length
@@ -35,16 +37,19 @@ same-length c = search needs
 
 returns : tie.Need-returns
 returns c =
-    let s = c .before .before .before .before .before .before .before .before .before .before .before .before .before in
+    let lay-number = c .before .before in
+    let lay-u82 = lay-number .before .before .before .before in
+    let lay-u8 = lay-u82 .before .before .before .before in
+    let s = lay-u8 .before .before .before in
     let a = s .args in
     let out = now (a .out) in
     let i = a .at in
     let few = digits-of (a .size) (omega arith) in
-    let space = one-byte out i 32 (c .before .before .before .before .before .before .before .before .before .before .lay-u8 .ensures) in
-    let minus = lays _ (i + 1) 1 (i + 2) (omega arith) (omega arith) (c .before .before .before .before .before .before .lay-u82 .ensures) in
-    let number = within _ (i + 2) (length (decimal (a .size))) 10 (c .before .before .lay-number .result) few (c .before .before .lay-number .ensures) in
+    let space = one-byte out i 32 (lay-u8 .lay-u8 .ensures) in
+    let minus = lays _ (i + 1) 1 (i + 2) (omega arith) (omega arith) (lay-u82 .lay-u82 .ensures) in
+    let number = within _ (i + 2) (length (decimal (a .size))) 10 (lay-number .lay-number .result) few (lay-number .lay-number .ensures) in
     let two = then out i 1 1 (i + 1) (i + 2) (omega arith) space minus in
-    then out i 2 10 (i + 2) (c .before .before .lay-number .result) (omega arith) two number
+    then out i 2 10 (i + 2) (lay-number .lay-number .result) (omega arith) two number
 
 pub lay-negative-spec : {M : Type 1} → statement M
 lay-negative-spec =

@@ -24,8 +24,9 @@ add-lay-digits c = search needs
 
 lay-digits-requires : tie.Need-lay-digits-requires
 lay-digits-requires c κs =
-    let s = c .before .before .before .before .before .before .before in
-    let e = c .before .before .before .before .before .long-count .ensures in
+    let out = c .before .before in
+    let s = out .before .before .before .before .before in
+    let e = out .before .before .before .long-count .ensures in
     (e, omega (arith, digits-of (s .args .n) (omega arith)))
 
 add-result : tie.Need-add-result
@@ -33,22 +34,26 @@ add-result c = search needs
 
 add-result-2 : tie.Need-add-result-2
 add-result-2 c =
-    let s = c .before .before .before .before .before .before .before .before .before .before in
-    omega (arith, digits-of (s .args .n) (omega arith), c .before .before .before .before .before .before .before .before .long-count .ensures)
+    let out = c .before .before .before .before .before in
+    let long-count = out .before .before .before in
+    let s = long-count .before .before in
+    omega (arith, digits-of (s .args .n) (omega arith), long-count .long-count .ensures)
 
 same-length : tie.Need-same-length
 same-length c = search needs
 
 returns : tie.Need-returns
 returns c =
-    let s = c .before .before .before .before .before .before .before .before .before .before in
+    let lay-digits = c .before .before in
+    let lay-u8 = lay-digits .before .before .before .before in
+    let s = lay-u8 .before .before .before .before in
     let a = s .args in
     let out = now (a .out) in
     let few = digits-of (a .n) (omega arith) in
-    let count = c .before .before .before .before .before .before .before .before .long-count .result in
-    let e = c .before .before .before .before .before .before .before .before .long-count .ensures in
-    let space = one-byte out (a .at) 32 (c .before .before .before .before .before .before .lay-u8 .ensures) in
-    let number = lays _ (a .at + 1) 20 (a .at + 1 + count) (omega arith) few (c .before .before .lay-digits .ensures) in
+    let count = lay-u8 .before .before .long-count .result in
+    let e = lay-u8 .before .before .long-count .ensures in
+    let space = one-byte out (a .at) 32 (lay-u8 .lay-u8 .ensures) in
+    let number = lays _ (a .at + 1) 20 (a .at + 1 + count) (omega arith) few (lay-digits .lay-digits .ensures) in
     then out (a .at) 1 20 (a .at + 1) (a .at + 1 + count) (omega arith) space number
 
 pub lay-u64-field-spec : {M : Type 1} → statement M

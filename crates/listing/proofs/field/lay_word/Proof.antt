@@ -3,7 +3,7 @@ use Prim.Native.Nat.{_+_, _-_, _≤_}
 use native.Mathlib.Omega.{arith}
 use lib.ListN.{length, take}
 use denote.Ref.{now}
-use Rattle.listing.specs.Laying.{Lays}
+use Rattle.listing.specs.Inner.{Lays}
 use Rattle.listing.proofs.Parts.{still, word-start, word-more, word-end}
 use Rattle.listing.proofs.field.lay_word.Statement.{statement}
 use Rattle.listing.proofs.field.lay_word.Tie as tie
@@ -29,9 +29,10 @@ shared-slice-read-lay-u8 c = c .before .before .loop-test .taken
 
 lay-u8-requires : tie.Need-lay-u8-requires Inv-loop μ-loop
 lay-u8-requires c κs =
-    let l = c .before .before .before .loop in
+    let loop = c .before .before .before in
+    let s = loop .before .before .before in
+    let l = loop .loop in
     let t = c .before .before .loop-test .taken in
-    let s = c .before .before .before .before .before .before in
     omega (arith, s .pre, still (now (s .args .out)) (s .args .at) (l .i) (s .args .at + l .i) (omega arith) (l .inv .1))
 
 add-i : tie.Need-add-i Inv-loop μ-loop
@@ -46,9 +47,10 @@ loop-less c =
 
 loop-again : tie.Need-loop-again Inv-loop μ-loop
 loop-again c =
-    let l = c .before .before .before .before .before .before .loop in
-    let t = c .before .before .before .before .before .loop-test .taken in
-    let s = c .before .before .before .before .before .before .before .before .before in
+    let loop-test = c .before .before .before .before .before in
+    let s = loop-test .before .before .before .before in
+    let l = loop-test .before .loop in
+    let t = loop-test .loop-test .taken in
     (omega arith, word-more (now (s .args .out)) (s .args .at) (now (s .args .word)) (l .i) (s .pre) t (l .inv .1) (c .before .before .lay-u8 .ensures))
 
 add-result : tie.Need-add-result Inv-loop μ-loop

@@ -1,7 +1,8 @@
 -- `lay_day_line` meets its contract: its parts stand one behind another.
+use Prim.Native.Nat.{_+_}
 use native.Mathlib.Omega.{arith}
 use denote.Ref.{now}
-use Rattle.listing.specs.Lines.{spaced, line, dayLine}
+use Rattle.listing.specs.Lines.{spaced, line, dayLine, u8Field, u16Field, u32Field}
 use Rattle.listing.proofs.Parts.{then}
 use borrow.Author.Needs.{needs}
 use Rattle.listing.proofs.lines.lay_day_line.Statement.{statement}
@@ -31,14 +32,19 @@ same-length c = search needs
 returns : tie.Need-returns
 unfolding dayLine line spaced
 returns c =
-    let s = c .before .before .before .before .before .before .before .before .before .before .before .before .before .before .before .before .before .before .before .before .before .before in
+    let feed = c .before .before in
+    let run = feed .before .before .before .before in
+    let quarters = run .before .before .before .before in
+    let day = quarters .before .before .before .before in
+    let word = day .before .before .before .before in
+    let s = word .before .before .before .before in
     let a = s .args in
     let out = now (a .out) in
     let i = a .at in
-    let q1 = then out i 3 6 (c .before .before .before .before .before .before .before .before .before .before .before .before .before .before .before .before .before .before .lay-word .result) (c .before .before .before .before .before .before .before .before .before .before .before .before .before .before .lay-u16-field .result) (omega (arith, s .pre)) (c .before .before .before .before .before .before .before .before .before .before .before .before .before .before .before .before .before .before .lay-word .ensures) (c .before .before .before .before .before .before .before .before .before .before .before .before .before .before .lay-u16-field .ensures) in
-    let q2 = then out i 9 4 (c .before .before .before .before .before .before .before .before .before .before .before .before .before .before .lay-u16-field .result) (c .before .before .before .before .before .before .before .before .before .before .lay-u8-field .result) (omega (arith, s .pre)) q1 (c .before .before .before .before .before .before .before .before .before .before .lay-u8-field .ensures) in
-    let q3 = then out i 13 11 (c .before .before .before .before .before .before .before .before .before .before .lay-u8-field .result) (c .before .before .before .before .before .before .lay-u32-field .result) (omega (arith, s .pre)) q2 (c .before .before .before .before .before .before .lay-u32-field .ensures) in
-    then out i 24 1 (c .before .before .before .before .before .before .lay-u32-field .result) (c .before .before .lay-feed .result) (omega (arith, s .pre)) q3 (c .before .before .lay-feed .ensures)
+    let q1 = then out i 3 u16Field (word .lay-word .result) (day .lay-u16-field .result) (omega (arith, s .pre)) (word .lay-word .ensures) (day .lay-u16-field .ensures) in
+    let q2 = then out i (3 + u16Field) u8Field (day .lay-u16-field .result) (quarters .lay-u8-field .result) (omega (arith, s .pre)) q1 (quarters .lay-u8-field .ensures) in
+    let q3 = then out i (3 + u16Field + u8Field) u32Field (quarters .lay-u8-field .result) (run .lay-u32-field .result) (omega (arith, s .pre)) q2 (run .lay-u32-field .ensures) in
+    then out i (3 + u16Field + u8Field + u32Field) 1 (run .lay-u32-field .result) (feed .lay-feed .result) (omega (arith, s .pre)) q3 (feed .lay-feed .ensures)
 
 pub lay-day-line-spec : {M : Type 1} → statement M
 lay-day-line-spec =

@@ -1,7 +1,8 @@
 -- `lay_end_line` meets its contract: its parts stand one behind another.
+use Prim.Native.Nat.{_+_}
 use native.Mathlib.Omega.{arith}
 use denote.Ref.{now}
-use Rattle.listing.specs.Lines.{spaced, line, endLine}
+use Rattle.listing.specs.Lines.{spaced, line, endLine, u32Field}
 use Rattle.listing.proofs.Parts.{then}
 use borrow.Author.Needs.{needs}
 use Rattle.listing.proofs.lines.lay_end_line.Statement.{statement}
@@ -25,12 +26,15 @@ same-length c = search needs
 returns : tie.Need-returns
 unfolding endLine line spaced
 returns c =
-    let s = c .before .before .before .before .before .before .before .before .before .before .before .before .before .before in
+    let feed = c .before .before in
+    let counted = feed .before .before .before .before in
+    let word = counted .before .before .before .before in
+    let s = word .before .before .before .before in
     let a = s .args in
     let out = now (a .out) in
     let i = a .at in
-    let q1 = then out i 3 11 (c .before .before .before .before .before .before .before .before .before .before .lay-word .result) (c .before .before .before .before .before .before .lay-u32-field .result) (omega (arith, s .pre)) (c .before .before .before .before .before .before .before .before .before .before .lay-word .ensures) (c .before .before .before .before .before .before .lay-u32-field .ensures) in
-    then out i 14 1 (c .before .before .before .before .before .before .lay-u32-field .result) (c .before .before .lay-feed .result) (omega (arith, s .pre)) q1 (c .before .before .lay-feed .ensures)
+    let q1 = then out i 3 u32Field (word .lay-word .result) (counted .lay-u32-field .result) (omega (arith, s .pre)) (word .lay-word .ensures) (counted .lay-u32-field .ensures) in
+    then out i (3 + u32Field) 1 (counted .lay-u32-field .result) (feed .lay-feed .result) (omega (arith, s .pre)) q1 (feed .lay-feed .ensures)
 
 pub lay-end-line-spec : {M : Type 1} → statement M
 lay-end-line-spec =

@@ -1,7 +1,9 @@
 -- `lay_group_front` meets its contract: its parts stand one behind another.
+use Prim.Native.Nat.{_+_, _*_}
 use native.Mathlib.Omega.{arith}
 use denote.Ref.{now}
-use Rattle.listing.specs.Lines.{spaced}
+use Rattle.records.specs.Layouts.{groupResultAt}
+use Rattle.listing.specs.Lines.{spaced, u8Field, u16Field}
 use Rattle.listing.proofs.Parts.{then}
 use borrow.Author.Needs.{needs}
 use Rattle.listing.proofs.lines.lay_group_front.Statement.{statement}
@@ -47,18 +49,25 @@ same-length : tie.Need-same-length
 same-length c = search needs
 
 returns : tie.Need-returns
-unfolding spaced
+unfolding spaced groupResultAt
 returns c =
-    let s = c .before .before .before .before .before .before .before .before .before .before .before .before .before .before .before .before .before .before .before .before .before .before .before .before .before .before .before .before .before .before .before .before in
+    let count = c .before .before in
+    let verdict = count .before .before .before .before .before in
+    let quarter = verdict .before .before .before .before .before in
+    let zone = quarter .before .before .before .before .before in
+    let party = zone .before .before .before .before .before in
+    let word = party .before .before .before .before in
+    let brp = word .before .before .before in
+    let s = brp .before .before .before in
     let a = s .args in
     let out = now (a .out) in
     let i = a .at in
-    let p1 = rw (c .before .before .before .before .before .before .before .before .before .before .before .before .before .before .before .before .before .before .before .before .before .before .before .before .before .before .before .before .before .u16-at .ensures) at (c .before .before .before .before .before .before .before .before .before .before .before .before .before .before .before .before .before .before .before .before .before .before .lay-u16-field .ensures) in
-    let q1 = then out i 5 6 (c .before .before .before .before .before .before .before .before .before .before .before .before .before .before .before .before .before .before .before .before .before .before .before .before .before .before .lay-word .result) (c .before .before .before .before .before .before .before .before .before .before .before .before .before .before .before .before .before .before .before .before .before .before .lay-u16-field .result) (omega (arith, s .pre .1)) (c .before .before .before .before .before .before .before .before .before .before .before .before .before .before .before .before .before .before .before .before .before .before .before .before .before .before .lay-word .ensures) p1 in
-    let q2 = then out i 11 4 (c .before .before .before .before .before .before .before .before .before .before .before .before .before .before .before .before .before .before .before .before .before .before .lay-u16-field .result) (c .before .before .before .before .before .before .before .before .before .before .before .before .before .before .before .before .before .lay-u8-field .result) (omega (arith, s .pre .1)) q1 (c .before .before .before .before .before .before .before .before .before .before .before .before .before .before .before .before .before .lay-u8-field .ensures) in
-    let q3 = then out i 15 4 (c .before .before .before .before .before .before .before .before .before .before .before .before .before .before .before .before .before .lay-u8-field .result) (c .before .before .before .before .before .before .before .before .before .before .before .before .lay-u8-field2 .result) (omega (arith, s .pre .1)) q2 (c .before .before .before .before .before .before .before .before .before .before .before .before .lay-u8-field2 .ensures) in
-    let q4 = then out i 19 4 (c .before .before .before .before .before .before .before .before .before .before .before .before .lay-u8-field2 .result) (c .before .before .before .before .before .before .before .lay-u8-field3 .result) (omega (arith, s .pre .1)) q3 (c .before .before .before .before .before .before .before .lay-u8-field3 .ensures) in
-    then out i 23 4 (c .before .before .before .before .before .before .before .lay-u8-field3 .result) (c .before .before .lay-u8-field4 .result) (omega (arith, s .pre .1)) q4 (c .before .before .lay-u8-field4 .ensures)
+    let p1 = rw (brp .u16-at .ensures) at (party .lay-u16-field .ensures) in
+    let q1 = then out i 5 u16Field (word .lay-word .result) (party .lay-u16-field .result) (omega (arith, s .pre .1)) (word .lay-word .ensures) p1 in
+    let q2 = then out i (5 + u16Field) u8Field (party .lay-u16-field .result) (zone .lay-u8-field .result) (omega (arith, s .pre .1)) q1 (zone .lay-u8-field .ensures) in
+    let q3 = then out i (5 + u16Field + u8Field) u8Field (zone .lay-u8-field .result) (quarter .lay-u8-field2 .result) (omega (arith, s .pre .1)) q2 (quarter .lay-u8-field2 .ensures) in
+    let q4 = then out i (5 + u16Field + u8Field * 2) u8Field (quarter .lay-u8-field2 .result) (verdict .lay-u8-field3 .result) (omega (arith, s .pre .1)) q3 (verdict .lay-u8-field3 .ensures) in
+    then out i (5 + u16Field + u8Field * 3) u8Field (verdict .lay-u8-field3 .result) (count .lay-u8-field4 .result) (omega (arith, s .pre .1)) q4 (count .lay-u8-field4 .ensures)
 
 pub lay-group-front-spec : {M : Type 1} → statement M
 lay-group-front-spec =

@@ -1,9 +1,9 @@
 -- `lay_quantities` meets its contract: its parts stand one behind another.
 use native.Mathlib.Omega.{arith}
 use denote.Ref.{now}
-use Rattle.listing.specs.Lines.{spaced}
+use Rattle.listing.specs.Lines.{spaced, i32Field}
 use Rattle.listing.proofs.Parts.{then}
-use Prim.Native.Nat.{_+_}
+use Prim.Native.Nat.{_+_, _*_}
 use mathlib.Core.Path.{_≡_}
 use mir.Syntax.{w32}
 use mir.Val.{SFits}
@@ -52,27 +52,35 @@ same-length c = search needs
 returns : tie.Need-returns
 unfolding spaced
 returns c =
-    let s = c .before .before .before .before .before .before .before .before .before .before .before .before .before .before .before .before .before .before .before .before .before .before in
+    let fourth = c .before .before in
+    let r4 = fourth .before in
+    let third = r4 .before .before .before .before in
+    let r3 = third .before in
+    let second = r3 .before .before .before .before in
+    let r2 = second .before in
+    let first = r2 .before .before .before .before in
+    let r1 = first .before in
+    let s = r1 .before .before .before .before in
     let a = s .args in
     let out = now (a .out) in
     let i = a .at in
     let r = now (a .result) in
     let f = a .from in
-    let e1 : c .before .before .before .before .before .before .before .before .before .before .before .before .before .before .before .before .before .before .i32-at .result ≡ signed32 (be32 r f) = c .before .before .before .before .before .before .before .before .before .before .before .before .before .before .before .before .before .before .i32-at .ensures in
-    let h1 : SFits w32 (c .before .before .before .before .before .before .before .before .before .before .before .before .before .before .before .before .before .before .i32-at .result) = record { sfits = c .before .before .before .before .before .before .before .before .before .before .before .before .before .before .before .before .before .before .i32-at .ok } in
-    let e2 : c .before .before .before .before .before .before .before .before .before .before .before .before .before .i32-at2 .result ≡ signed32 (be32 r (f + 4)) = c .before .before .before .before .before .before .before .before .before .before .before .before .before .i32-at2 .ensures in
-    let h2 : SFits w32 (c .before .before .before .before .before .before .before .before .before .before .before .before .before .i32-at2 .result) = record { sfits = c .before .before .before .before .before .before .before .before .before .before .before .before .before .i32-at2 .ok } in
-    let e3 : c .before .before .before .before .before .before .before .before .i32-at3 .result ≡ signed32 (be32 r (f + 8)) = c .before .before .before .before .before .before .before .before .i32-at3 .ensures in
-    let h3 : SFits w32 (c .before .before .before .before .before .before .before .before .i32-at3 .result) = record { sfits = c .before .before .before .before .before .before .before .before .i32-at3 .ok } in
-    let e4 : c .before .before .before .i32-at4 .result ≡ signed32 (be32 r (f + 12)) = c .before .before .before .i32-at4 .ensures in
-    let h4 : SFits w32 (c .before .before .before .i32-at4 .result) = record { sfits = c .before .before .before .i32-at4 .ok } in
-    let p0 = rw (toZ-ofZ h1, e1) at (c .before .before .before .before .before .before .before .before .before .before .before .before .before .before .before .before .before .lay-i32-field .ensures) in
-    let p1 = rw (toZ-ofZ h2, e2) at (c .before .before .before .before .before .before .before .before .before .before .before .before .lay-i32-field2 .ensures) in
-    let q1 = then out i 12 12 (c .before .before .before .before .before .before .before .before .before .before .before .before .before .before .before .before .before .lay-i32-field .result) (c .before .before .before .before .before .before .before .before .before .before .before .before .lay-i32-field2 .result) (omega (arith, s .pre .1)) p0 p1 in
-    let p2 = rw (toZ-ofZ h3, e3) at (c .before .before .before .before .before .before .before .lay-i32-field3 .ensures) in
-    let q2 = then out i 24 12 (c .before .before .before .before .before .before .before .before .before .before .before .before .lay-i32-field2 .result) (c .before .before .before .before .before .before .before .lay-i32-field3 .result) (omega (arith, s .pre .1)) q1 p2 in
-    let p3 = rw (toZ-ofZ h4, e4) at (c .before .before .lay-i32-field4 .ensures) in
-    then out i 36 12 (c .before .before .before .before .before .before .before .lay-i32-field3 .result) (c .before .before .lay-i32-field4 .result) (omega (arith, s .pre .1)) q2 p3
+    let e1 : r1 .i32-at .result ≡ signed32 (be32 r f) = r1 .i32-at .ensures in
+    let h1 : SFits w32 (r1 .i32-at .result) = record { sfits = r1 .i32-at .ok } in
+    let e2 : r2 .i32-at2 .result ≡ signed32 (be32 r (f + 4)) = r2 .i32-at2 .ensures in
+    let h2 : SFits w32 (r2 .i32-at2 .result) = record { sfits = r2 .i32-at2 .ok } in
+    let e3 : r3 .i32-at3 .result ≡ signed32 (be32 r (f + 8)) = r3 .i32-at3 .ensures in
+    let h3 : SFits w32 (r3 .i32-at3 .result) = record { sfits = r3 .i32-at3 .ok } in
+    let e4 : r4 .i32-at4 .result ≡ signed32 (be32 r (f + 12)) = r4 .i32-at4 .ensures in
+    let h4 : SFits w32 (r4 .i32-at4 .result) = record { sfits = r4 .i32-at4 .ok } in
+    let p1 = rw (toZ-ofZ h1, e1) at (first .lay-i32-field .ensures) in
+    let p2 = rw (toZ-ofZ h2, e2) at (second .lay-i32-field2 .ensures) in
+    let p3 = rw (toZ-ofZ h3, e3) at (third .lay-i32-field3 .ensures) in
+    let p4 = rw (toZ-ofZ h4, e4) at (fourth .lay-i32-field4 .ensures) in
+    let q2 = then out i i32Field i32Field (first .lay-i32-field .result) (second .lay-i32-field2 .result) (omega (arith, s .pre .1)) p1 p2 in
+    let q3 = then out i (i32Field * 2) i32Field (second .lay-i32-field2 .result) (third .lay-i32-field3 .result) (omega (arith, s .pre .1)) q2 p3 in
+    then out i (i32Field * 3) i32Field (third .lay-i32-field3 .result) (fourth .lay-i32-field4 .result) (omega (arith, s .pre .1)) q3 p4
 
 pub lay-quantities-spec : {M : Type 1} → statement M
 lay-quantities-spec =

@@ -1,7 +1,8 @@
 -- `lay_refused_line` meets its contract: its parts stand one behind another.
+use Prim.Native.Nat.{_+_}
 use native.Mathlib.Omega.{arith}
 use denote.Ref.{now}
-use Rattle.listing.specs.Lines.{spaced, line, refusedLine}
+use Rattle.listing.specs.Lines.{spaced, line, refusedLine, u8Field, u64Field}
 use Rattle.listing.proofs.Parts.{then}
 use borrow.Author.Needs.{needs}
 use Rattle.listing.proofs.lines.lay_refused_line.Statement.{statement}
@@ -28,13 +29,17 @@ same-length c = search needs
 returns : tie.Need-returns
 unfolding refusedLine line spaced
 returns c =
-    let s = c .before .before .before .before .before .before .before .before .before .before .before .before .before .before .before .before .before .before in
+    let feed = c .before .before in
+    let placed = feed .before .before .before .before in
+    let numbered = placed .before .before .before .before in
+    let word = numbered .before .before .before .before in
+    let s = word .before .before .before .before in
     let a = s .args in
     let out = now (a .out) in
     let i = a .at in
-    let q1 = then out i 7 4 (c .before .before .before .before .before .before .before .before .before .before .before .before .before .before .lay-word .result) (c .before .before .before .before .before .before .before .before .before .before .lay-u8-field .result) (omega (arith, s .pre)) (c .before .before .before .before .before .before .before .before .before .before .before .before .before .before .lay-word .ensures) (c .before .before .before .before .before .before .before .before .before .before .lay-u8-field .ensures) in
-    let q2 = then out i 11 21 (c .before .before .before .before .before .before .before .before .before .before .lay-u8-field .result) (c .before .before .before .before .before .before .lay-u64-field .result) (omega (arith, s .pre)) q1 (c .before .before .before .before .before .before .lay-u64-field .ensures) in
-    then out i 32 1 (c .before .before .before .before .before .before .lay-u64-field .result) (c .before .before .lay-feed .result) (omega (arith, s .pre)) q2 (c .before .before .lay-feed .ensures)
+    let q1 = then out i 7 u8Field (word .lay-word .result) (numbered .lay-u8-field .result) (omega (arith, s .pre)) (word .lay-word .ensures) (numbered .lay-u8-field .ensures) in
+    let q2 = then out i (7 + u8Field) u64Field (numbered .lay-u8-field .result) (placed .lay-u64-field .result) (omega (arith, s .pre)) q1 (placed .lay-u64-field .ensures) in
+    then out i (7 + u8Field + u64Field) 1 (placed .lay-u64-field .result) (feed .lay-feed .result) (omega (arith, s .pre)) q2 (feed .lay-feed .ensures)
 
 pub lay-refused-line-spec : {M : Type 1} → statement M
 lay-refused-line-spec =

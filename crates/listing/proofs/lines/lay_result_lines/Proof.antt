@@ -3,8 +3,8 @@ use Prim.Native.Nat.{_+_, _*_}
 use native.Mathlib.Omega.{arith}
 use denote.Ref.{now}
 use Rattle.numbers.specs.Bytes.{byteAt}
-use Rattle.records.specs.Layouts.{groupResultAt}
-use Rattle.listing.specs.Lines.{resultLines}
+use Rattle.records.specs.Layouts.{resultCount, groupResultAt}
+use Rattle.listing.specs.Lines.{resultLines, longestGroupLine, longestUnitLine, longestLines}
 use Rattle.listing.proofs.Parts.{then, within}
 use borrow.Author.Needs.{needs}
 use Rattle.listing.proofs.lines.lay_result_lines.Statement.{statement}
@@ -28,15 +28,17 @@ same-length c = search needs
 returns : tie.Need-returns
 unfolding resultLines groupResultAt
 returns c =
-    let s = c .before .before .before .before .before .before .before .before .before .before .before in
+    let put = c .before .before in
+    let front = put .before .before .before .before .before in
+    let s = front .before .before .before .before in
     let a = s .args in
     let out = now (a .out) in
-    let count = byteAt (now (a .result)) 6 in
+    let count = byteAt (now (a .result)) (resultCount .place) in
     let h = s .pre .0 .few in
-    let group = c .before .before .before .before .before .before .before .lay-group-line in
-    let units = c .before .before .lay-unit-lines in
-    let all = then out (a .at) 88 (63 * count) (group .result) (units .result) (omega (arith, s .pre .1)) (group .ensures) (units .ensures) in
-    within out (a .at) (88 + 63 * count) 4120 (units .result) (omega (arith, all .few)) all
+    let group = front .lay-group-line in
+    let units = put .lay-unit-lines in
+    let all = then out (a .at) longestGroupLine (longestUnitLine * count) (group .result) (units .result) (omega (arith, s .pre .1)) (group .ensures) (units .ensures) in
+    within out (a .at) (longestGroupLine + longestUnitLine * count) longestLines (units .result) (omega (arith, all .few)) all
 
 pub lay-result-lines-spec : {M : Type 1} → statement M
 lay-result-lines-spec =

@@ -1,11 +1,11 @@
 -- `lay_unit_line` meets its contract: its parts stand one behind another.
 use native.Mathlib.Omega.{arith}
 use denote.Ref.{now}
-use Rattle.listing.specs.Lines.{signedDecimal, spaced, line, unitLine}
+use Rattle.listing.specs.Lines.{signedDecimal, spaced, line, unitLine, u8Field, u16Field, i32Field}
 use Rattle.listing.proofs.Parts.{then, then-fields}
 use mathlib.Core.Path.{_≡_}
 use mathlib.Core.List.{List, [], _∷_}
-use Prim.Native.Nat.{ℕ, _+_}
+use Prim.Native.Nat.{ℕ, _+_, _*_}
 use Rattle.numbers.specs.Bytes.{be32, signed32}
 use Rattle.records.specs.Layouts.{unitResultAt}
 use borrow.Author.Needs.{needs}
@@ -51,7 +51,13 @@ same-length c = search needs
 returns : tie.Need-returns
 unfolding unitLine line unitResultAt spaced
 returns c =
-    let s = c .before .before .before .before .before .before .before .before .before .before .before .before .before .before .before .before .before .before .before .before .before .before .before .before .before in
+    let feed = c .before .before in
+    let steps = feed .before .before .before .before in
+    let reason = steps .before .before .before .before in
+    let numbered = reason .before .before .before .before .before in
+    let word = numbered .before .before .before .before in
+    let read = word .before .before .before in
+    let s = read .before .before .before in
     let a = s .args in
     let out = now (a .out) in
     let i = a .at in
@@ -61,12 +67,12 @@ returns c =
     let e2 : f + 4 + 8 ≡ f + 12 = omega arith in
     let e3 : f + 4 + 12 ≡ f + 16 = omega arith in
     let four : List (List ℕ) = signedDecimal (signed32 (be32 r (f + 4))) ∷ signedDecimal (signed32 (be32 r (f + 8))) ∷ signedDecimal (signed32 (be32 r (f + 12))) ∷ signedDecimal (signed32 (be32 r (f + 16))) ∷ [] in
-    let number = rw (c .before .before .before .before .before .before .before .before .before .before .before .before .before .before .before .before .before .before .before .before .before .before .u16-at .ensures) at (c .before .before .before .before .before .before .before .before .before .before .before .before .before .before .before .lay-u16-field .ensures) in
-    let steps = rw (e1, e2, e3) at (c .before .before .before .before .before .before .lay-quantities .ensures) in
-    let q1 = then out i 4 6 (c .before .before .before .before .before .before .before .before .before .before .before .before .before .before .before .before .before .before .before .lay-word .result) (c .before .before .before .before .before .before .before .before .before .before .before .before .before .before .before .lay-u16-field .result) (omega (arith, s .pre .1)) (c .before .before .before .before .before .before .before .before .before .before .before .before .before .before .before .before .before .before .before .lay-word .ensures) number in
-    let q2 = then out i 10 4 (c .before .before .before .before .before .before .before .before .before .before .before .before .before .before .before .lay-u16-field .result) (c .before .before .before .before .before .before .before .before .before .before .lay-u8-field .result) (omega (arith, s .pre .1)) q1 (c .before .before .before .before .before .before .before .before .before .before .lay-u8-field .ensures) in
-    let q3 = then-fields out i four 14 48 (c .before .before .before .before .before .before .before .before .before .before .lay-u8-field .result) (c .before .before .before .before .before .before .lay-quantities .result) (omega (arith, s .pre .1)) q2 steps in
-    then out i 62 1 (c .before .before .before .before .before .before .lay-quantities .result) (c .before .before .lay-feed .result) (omega (arith, s .pre .1)) q3 (c .before .before .lay-feed .ensures)
+    let number = rw (read .u16-at .ensures) at (numbered .lay-u16-field .ensures) in
+    let fields = rw (e1, e2, e3) at (steps .lay-quantities .ensures) in
+    let q1 = then out i 4 u16Field (word .lay-word .result) (numbered .lay-u16-field .result) (omega (arith, s .pre .1)) (word .lay-word .ensures) number in
+    let q2 = then out i (4 + u16Field) u8Field (numbered .lay-u16-field .result) (reason .lay-u8-field .result) (omega (arith, s .pre .1)) q1 (reason .lay-u8-field .ensures) in
+    let q3 = then-fields out i four (4 + u16Field + u8Field) (i32Field * 4) (reason .lay-u8-field .result) (steps .lay-quantities .result) (omega (arith, s .pre .1)) q2 fields in
+    then out i (4 + u16Field + u8Field + i32Field * 4) 1 (steps .lay-quantities .result) (feed .lay-feed .result) (omega (arith, s .pre .1)) q3 (feed .lay-feed .ensures)
 
 pub lay-unit-line-spec : {M : Type 1} → statement M
 lay-unit-line-spec =

@@ -25,8 +25,9 @@ is-over-requires c κs = search needs
 
 returns-3 : tie.Need-returns-3
 returns-3 c =
-    let a = c .before .before .before .before .before .before .before .before .args in
-    done (a .l) (now (a .s)) (a .ended) (now (a .room)) (le-ltb _ _ (c .before .before .before .before .before .if1 .left)) (sym (c .before .before .before .before .must-wait .ensures) ∙ c .before .before .before .if2 .left)
+    let test2 = c .before .before .before in
+    let a = test2 .before .before .before .before .before .args in
+    done (a .l) (now (a .s)) (a .ended) (now (a .room)) (le-ltb _ _ (test2 .before .before .if1 .left)) (sym (test2 .before .must-wait .ensures) ∙ test2 .if2 .left)
     (sym (c .before .is-over .ensures) ∙ c .if3 .taken)
 
 list-offer-requires : tie.Need-list-offer-requires
@@ -37,8 +38,10 @@ same-length c = search needs
 
 returns-4 : tie.Need-returns-4
 returns-4 c =
-    let a = c .before .before .before .before .before .before .before .before .before .before .before .before .args in
-    rw (offered (a .l) (now (a .s)) (a .ended) (now (a .room)) (le-ltb _ _ (c .before .before .before .before .before .before .before .before .before .if1 .left)) (sym (c .before .before .before .before .before .before .before .before .must-wait .ensures) ∙ c .before .before .before .before .before .before .before .if2 .left) (sym (c .before .before .before .before .before .is-over .ensures) ∙ c .before .before .before .before .if3 .left))
+    let test3 = c .before .before .before .before in
+    let test2 = test3 .before .before .before in
+    let a = test2 .before .before .before .before .before .args in
+    rw (offered (a .l) (now (a .s)) (a .ended) (now (a .room)) (le-ltb _ _ (test2 .before .before .if1 .left)) (sym (test2 .before .must-wait .ensures) ∙ test2 .if2 .left) (sym (test3 .before .is-over .ensures) ∙ test3 .if3 .left))
     (c .before .before .list-offer .ensures)
 
 pub list-next-spec : {M : Type 1} → statement M

@@ -24,8 +24,9 @@ same-length c = search needs
 returns : tie.Need-returns
 unfolding listRefused
 returns c =
-    let a = c .before .before .before .before .before .before .before .args in
-    let e = rw (c .before .before .before .number .ensures, c .before .before .before .before .before .wrapping-add-u64 .ensures) at (c .before .before .lay-refused-line .ensures) in
+    let number = c .before .before .before in
+    let a = number .before .before .before .before .args in
+    let e = rw (number .number .ensures, number .before .before .wrapping-add-u64 .ensures) at (c .before .before .lay-refused-line .ensures) in
     let w : c .before .before .lay-refused-line .result ≡ length (refusedLine (numberOf (a .r .why)) (further (a .place) (a .r .place))) = omega (arith, e .after) in
     record { replied = rw w; room = e .room }
 

@@ -20,9 +20,11 @@ same-length c = search needs
 returns : tie.Need-returns
 unfolding listTaken
 returns c =
-    let a = c .before .before .before .before .before .before .before .before .args in
-    let e = c .before .before .before .lay-accepted in
-    let w : e .result ≡ length (acceptedLines (a .kind) (a .step .day) (now (a .result))) = omega (arith, e .ensures .after) in
+    let lay-accepted = c .before .before .before in
+    let start = lay-accepted .before .before .before .before .before in
+    let a = start .args in
+    let e = lay-accepted .lay-accepted in
+    let w : e .result ≡ length (acceptedLines (a .role) (a .step .day) (now (a .result))) = omega (arith, e .ensures .after) in
     record { replied = rw (w, c .wrapping-add-u64 .ensures); room = e .ensures .room }
 
 pub list-taken-spec : {M : Type 1} → statement M

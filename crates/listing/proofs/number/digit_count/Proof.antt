@@ -35,7 +35,9 @@ returns-9 c = sym (so-many 7 11 _ refl (c .before .if8 .left) (c .if9 .taken))
 
 returns-10 : tie.Need-returns-10
 returns-10 c =
-    let n = c .before .before .before .before .before .before .before .before .before .args .n in
+    let test5 = c .before .before .before .before in
+    let start = test5 .before .before .before .before .before in
+    let n = start .args .n in
     let h : n < 10000000000 = omega arith in
     sym (so-many 8 10 n refl (c .if9 .left) h)
 

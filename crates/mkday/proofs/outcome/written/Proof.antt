@@ -6,6 +6,9 @@ use borrow.Author.Needs.{needs}
 use Rattle.mkday.proofs.outcome.written.Statement.{statement}
 use Rattle.mkday.proofs.outcome.written.Tie as tie
 
+least-requires : tie.Need-least-requires
+least-requires c κs = search needs
+
 slice-aggregate-write-all : tie.Need-slice-aggregate-write-all
 slice-aggregate-write-all c = sym (length-take-le _ _ (omega arith))
 
@@ -15,8 +18,6 @@ write-all-requires c κs = search needs
 returns : tie.Need-returns
 returns c = search needs
 
-returns-2 : tie.Need-returns-2
-returns-2 c = search needs
-
 pub written-spec : {M : Type 1} → statement M
-written-spec = tie.close (tie.spec slice-aggregate-write-all write-all-requires returns returns-2)
+written-spec =
+    tie.close (tie.spec least-requires slice-aggregate-write-all write-all-requires returns)

@@ -23,8 +23,9 @@ refusal-requires c κs = search needs
 returns : tie.Need-returns
 unfolding dayFieldsOf
 returns c =
+    let quarters-at = c .before .before .before in
     let told = c .before .enum-told .given .1 in
-    rw (c .refusal .ensures, told) (field-out _ _ _ _ _ (sym (ap byteReply told) ∙ c .before .before .before .quarters-at .ensures))
+    rw (c .refusal .ensures, told) (field-out _ _ _ _ _ (sym (ap byteReply told) ∙ quarters-at .quarters-at .ensures))
 
 u16-at-requires : tie.Need-u16-at-requires
 u16-at-requires c κs = search needs
@@ -44,12 +45,13 @@ new-requires c κs = search needs
 returns-2 : tie.Need-returns-2
 unfolding dayFieldsOf dayAt
 returns-2 c =
-    let q = c .before .before .before .before .before .before in
+    let u32-at = c .before .before .before in
+    let q = u32-at .before .before .before in
     let p = field-in _ _ _ _ (sym (ap byteReply (q .q .given .1)) ∙ q .before .before .quarters-at .ensures) in
     let margins = c .before .u16-at3 .ensures in
     let positions = c .before .before .u16-at2 .ensures in
-    let run = c .before .before .before .u32-at .ensures in
-    let day = c .before .before .before .before .u16-at .ensures in
+    let run = u32-at .u32-at .ensures in
+    let day = u32-at .before .u16-at .ensures in
     past _ _ _ _ (p .0) (rw (c .new .ensures, day, p .1, run, positions, margins))
 
 pub day-fields-spec : {M : Type 1} → statement M

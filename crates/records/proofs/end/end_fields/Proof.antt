@@ -23,8 +23,9 @@ refusal-requires c κs = search needs
 returns : tie.Need-returns
 unfolding endFieldsOf
 returns c =
+    let groups-at = c .before .before .before in
     let told = c .before .enum-told .given .1 in
-    rw (c .refusal .ensures, told) (field-out _ _ _ _ _ (sym (ap numberReply told) ∙ c .before .before .before .groups-at .ensures))
+    rw (c .refusal .ensures, told) (field-out _ _ _ _ _ (sym (ap numberReply told) ∙ groups-at .groups-at .ensures))
 
 new-requires : tie.Need-new-requires
 new-requires c κs = search needs

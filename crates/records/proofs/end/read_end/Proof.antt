@@ -22,14 +22,18 @@ refusal-requires c κs = search needs
 
 returns : tie.Need-returns
 unfolding endOf next
-returns c = rw (c .refusal .ensures, ← (c .before .before .before .head .ensures), c .before .enum-told2 .given .1)
+returns c =
+    let head = c .before .before .before in
+    rw (c .refusal .ensures, ← (head .head .ensures), c .before .enum-told2 .given .1)
 
 end-fields-requires : tie.Need-end-fields-requires
 end-fields-requires c κs = headed _ _ _ _ (sym (c .before .before .head .ensures) ∙ ap answer (c .enum-told .given .1)) .long
 
 returns-2 : tie.Need-returns-2
 unfolding endOf next
-returns-2 c = rw (← (c .before .before .before .head .ensures), c .before .enum-told .given .1) (c .end-fields .ensures)
+returns-2 c =
+    let head = c .before .before .before in
+    rw (← (head .head .ensures), c .before .enum-told .given .1) (c .end-fields .ensures)
 
 pub read-end-spec : {M : Type 1} → statement M
 read-end-spec =

@@ -15,8 +15,8 @@ returns : tie.Need-returns
 unfolding markFaults
 returns c = check-out _ _ _ (lt-leb _ _ (c .if1 .taken))
 
-flag-requires : tie.Need-flag-requires
-flag-requires c κs = search needs
+class-requires : tie.Need-class-requires
+class-requires c κs = search needs
 
 enum-told : tie.Need-enum-told
 enum-told c = search needs
@@ -27,12 +27,13 @@ enum-told-2 c = search needs
 returns-2 : tie.Need-returns-2
 unfolding markFaults
 returns-2 c =
-    let floor = le-leb _ _ (c .before .before .before .if1 .left) in
-    let q = fails _ _ _ (sym (c .before .before .flag .ensures) ∙ c .enum-told2 .given .1) in
+    let test = c .before .before .before in
+    let floor = le-leb _ _ (test .if1 .left) in
+    let q = fails _ _ _ (sym (c .before .before .class .ensures) ∙ c .enum-told2 .given .1) in
     check-past _ _ _ floor (check-out _ _ _ q)
 
-flag-requires-2 : tie.Need-flag-requires-2
-flag-requires-2 c κs = search needs
+flag-requires : tie.Need-flag-requires
+flag-requires c κs = search needs
 
 enum-told-3 : tie.Need-enum-told-3
 enum-told-3 c = search needs
@@ -44,13 +45,14 @@ returns-3 : tie.Need-returns-3
 unfolding markFaults
 returns-3 c =
     let f1 = c .before .before .before in
-    let p1 = passes _ _ _ (sym (f1 .before .before .flag .ensures) ∙ f1 .enum-told .given .1) .0 in
-    let floor = le-leb _ _ (f1 .before .before .before .if1 .left) in
-    let q = fails _ _ _ (sym (c .before .before .flag2 .ensures) ∙ c .enum-told4 .given .1) in
+    let test = f1 .before .before .before in
+    let p1 = passes _ _ _ (sym (f1 .before .before .class .ensures) ∙ f1 .enum-told .given .1) .0 in
+    let floor = le-leb _ _ (test .if1 .left) in
+    let q = fails _ _ _ (sym (c .before .before .flag .ensures) ∙ c .enum-told4 .given .1) in
     check-past _ _ _ floor (check-past _ _ _ p1 (check-out _ _ _ q))
 
-flag-requires-3 : tie.Need-flag-requires-3
-flag-requires-3 c κs = search needs
+flag-requires-2 : tie.Need-flag-requires-2
+flag-requires-2 c κs = search needs
 
 enum-told-5 : tie.Need-enum-told-5
 enum-told-5 c = search needs
@@ -62,11 +64,12 @@ returns-4 : tie.Need-returns-4
 unfolding markFaults
 returns-4 c =
     let f2 = c .before .before .before in
-    let p2 = passes _ _ _ (sym (f2 .before .before .flag2 .ensures) ∙ f2 .enum-told3 .given .1) .0 in
     let f1 = f2 .before .before .before in
-    let p1 = passes _ _ _ (sym (f1 .before .before .flag .ensures) ∙ f1 .enum-told .given .1) .0 in
-    let floor = le-leb _ _ (f1 .before .before .before .if1 .left) in
-    let q = fails _ _ _ (sym (c .before .before .flag3 .ensures) ∙ c .enum-told6 .given .1) in
+    let test = f1 .before .before .before in
+    let p2 = passes _ _ _ (sym (f2 .before .before .flag .ensures) ∙ f2 .enum-told3 .given .1) .0 in
+    let p1 = passes _ _ _ (sym (f1 .before .before .class .ensures) ∙ f1 .enum-told .given .1) .0 in
+    let floor = le-leb _ _ (test .if1 .left) in
+    let q = fails _ _ _ (sym (c .before .before .flag2 .ensures) ∙ c .enum-told6 .given .1) in
     check-past _ _ _ floor (check-past _ _ _ p1 (check-past _ _ _ p2 (check-out _ _ _ q)))
 
 nomination-requires : tie.Need-nomination-requires
@@ -76,12 +79,13 @@ returns-5 : tie.Need-returns-5
 unfolding markFaults
 returns-5 c =
     let f3 = c .before in
-    let p3 = passes _ _ _ (sym (f3 .before .before .flag3 .ensures) ∙ f3 .enum-told5 .given .1) .0 in
     let f2 = f3 .before .before .before in
-    let p2 = passes _ _ _ (sym (f2 .before .before .flag2 .ensures) ∙ f2 .enum-told3 .given .1) .0 in
     let f1 = f2 .before .before .before in
-    let p1 = passes _ _ _ (sym (f1 .before .before .flag .ensures) ∙ f1 .enum-told .given .1) .0 in
-    let floor = le-leb _ _ (f1 .before .before .before .if1 .left) in
+    let test = f1 .before .before .before in
+    let p3 = passes _ _ _ (sym (f3 .before .before .flag2 .ensures) ∙ f3 .enum-told5 .given .1) .0 in
+    let p2 = passes _ _ _ (sym (f2 .before .before .flag .ensures) ∙ f2 .enum-told3 .given .1) .0 in
+    let p1 = passes _ _ _ (sym (f1 .before .before .class .ensures) ∙ f1 .enum-told .given .1) .0 in
+    let floor = le-leb _ _ (test .if1 .left) in
     check-past _ _ _ floor (check-past _ _ _ p1 (check-past _ _ _ p2 (check-past _ _ _ p3 (c .nomination .ensures))))
 
 pub marks-spec : {M : Type 1} → statement M
@@ -90,15 +94,15 @@ marks-spec =
     (tie.spec
     cast-if1
     returns
-    flag-requires
+    class-requires
     enum-told
     enum-told-2
     returns-2
-    flag-requires-2
+    flag-requires
     enum-told-3
     enum-told-4
     returns-3
-    flag-requires-3
+    flag-requires-2
     enum-told-5
     enum-told-6
     returns-4

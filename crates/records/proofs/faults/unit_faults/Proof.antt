@@ -25,14 +25,16 @@ is-aged-requires c κs = search needs
 returns-2 : tie.Need-returns-2
 unfolding unitFaults also check
 returns-2 c =
+    let faults = c .before .before .before .before in
     let age = sym (c .before .is-aged .ensures) ∙ c .if1 .taken in
-    rw (← (c .before .before .before .before .faults .ensures), c .before .before .enum-told .given .1, age)
+    rw (← (faults .faults .ensures), c .before .before .enum-told .given .1, age)
 
 returns-3 : tie.Need-returns-3
 unfolding unitFaults also check
 returns-3 c =
+    let faults = c .before .before .before .before in
     let age = sym (c .before .is-aged .ensures) ∙ c .if1 .left in
-    rw (← (c .before .before .before .before .faults .ensures), c .before .before .enum-told .given .1, age)
+    rw (← (faults .faults .ensures), c .before .before .enum-told .given .1, age)
 
 pub unit-faults-spec : {M : Type 1} → statement M
 unit-faults-spec =

@@ -23,8 +23,9 @@ refusal-requires c κs = search needs
 returns : tie.Need-returns
 unfolding groupFieldsOf
 returns c =
+    let quarter-at = c .before .before .before in
     let told = c .before .enum-told .given .1 in
-    let e = field-out _ _ _ _ _ (sym (ap byteReply told) ∙ c .before .before .before .quarter-at .ensures) in
+    let e = field-out _ _ _ _ _ (sym (ap byteReply told) ∙ quarter-at .quarter-at .ensures) in
     rw (c .refusal .ensures, told) e
 
 count-at-requires : tie.Need-count-at-requires
@@ -42,10 +43,11 @@ refusal-requires-2 c κs = search needs
 returns-2 : tie.Need-returns-2
 unfolding groupFieldsOf
 returns-2 c =
-    let q = c .before .before .before .before .before in
+    let count-at = c .before .before .before in
+    let q = count-at .before .before in
     let p1 = field-in _ _ _ _ (sym (ap byteReply (q .q .given .1)) ∙ q .before .before .quarter-at .ensures) in
     let told = c .before .enum-told2 .given .1 in
-    let e = field-out _ _ _ _ _ (sym (ap byteReply told) ∙ c .before .before .before .count-at .ensures) in
+    let e = field-out _ _ _ _ _ (sym (ap byteReply told) ∙ count-at .count-at .ensures) in
     rw (c .refusal2 .ensures, told) (past _ _ _ _ (p1 .0) e)
 
 key-at-requires : tie.Need-key-at-requires
@@ -63,12 +65,13 @@ refusal-requires-3 c κs = search needs
 returns-3 : tie.Need-returns-3
 unfolding groupFieldsOf
 returns-3 c =
-    let n = c .before .before .before .before .before in
-    let p2 = field-in _ _ _ _ (sym (ap byteReply (n .n .given .1)) ∙ n .before .before .count-at .ensures) in
+    let key-at = c .before .before .before in
+    let n = key-at .before .before in
     let q = n .before .before .before .before in
+    let p2 = field-in _ _ _ _ (sym (ap byteReply (n .n .given .1)) ∙ n .before .before .count-at .ensures) in
     let p1 = field-in _ _ _ _ (sym (ap byteReply (q .q .given .1)) ∙ q .before .before .quarter-at .ensures) in
     let told = c .before .enum-told3 .given .1 in
-    let e = field-out _ _ _ _ _ (sym (ap keyReply told) ∙ c .before .before .before .key-at .ensures) in
+    let e = field-out _ _ _ _ _ (sym (ap keyReply told) ∙ key-at .key-at .ensures) in
     rw (c .refusal3 .ensures, told) (past _ _ _ _ (p1 .0) (past _ _ _ _ (p2 .0) e))
 
 made-at-requires : tie.Need-made-at-requires
@@ -86,14 +89,15 @@ refusal-requires-4 c κs = search needs
 returns-4 : tie.Need-returns-4
 unfolding groupFieldsOf
 returns-4 c =
-    let k = c .before .before .before .before .before in
-    let p3 = field-in _ _ _ _ (sym (ap keyReply (k .k .given .1)) ∙ k .before .before .key-at .ensures) in
+    let made-at = c .before .before .before in
+    let k = made-at .before .before in
     let n = k .before .before .before .before in
-    let p2 = field-in _ _ _ _ (sym (ap byteReply (n .n .given .1)) ∙ n .before .before .count-at .ensures) in
     let q = n .before .before .before .before in
+    let p3 = field-in _ _ _ _ (sym (ap keyReply (k .k .given .1)) ∙ k .before .before .key-at .ensures) in
+    let p2 = field-in _ _ _ _ (sym (ap byteReply (n .n .given .1)) ∙ n .before .before .count-at .ensures) in
     let p1 = field-in _ _ _ _ (sym (ap byteReply (q .q .given .1)) ∙ q .before .before .quarter-at .ensures) in
     let told = c .before .enum-told4 .given .1 in
-    let e = field-out _ _ _ _ _ (sym (ap numberReply told) ∙ c .before .before .before .made-at .ensures) in
+    let e = field-out _ _ _ _ _ (sym (ap numberReply told) ∙ made-at .made-at .ensures) in
     rw (c .refusal4 .ensures, told) (past _ _ _ _ (p1 .0) (past _ _ _ _ (p2 .0) (past _ _ _ _ (p3 .0) e)))
 
 new-requires : tie.Need-new-requires

@@ -20,11 +20,15 @@ precedes-requires c κs = search needs
 
 returns : tie.Need-returns
 unfolding need groupAt
-returns c = rw (← (c .before .before .before .before .u16-at .ensures)) (simp (sym (c .before .precedes .ensures) ∙ c .if1 .taken))
+returns c =
+    let u16-at = c .before .before .before .before in
+    rw (← (u16-at .u16-at .ensures)) (simp (sym (c .before .precedes .ensures) ∙ c .if1 .taken))
 
 returns-2 : tie.Need-returns-2
 unfolding need groupAt
-returns-2 c = rw (← (c .before .before .before .before .u16-at .ensures)) (simp (sym (c .before .precedes .ensures) ∙ c .if1 .left))
+returns-2 c =
+    let u16-at = c .before .before .before .before in
+    rw (← (u16-at .u16-at .ensures)) (simp (sym (c .before .precedes .ensures) ∙ c .if1 .left))
 
 pub key-at-spec : {M : Type 1} → statement M
 key-at-spec =

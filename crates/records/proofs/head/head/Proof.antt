@@ -27,9 +27,10 @@ sub-if3 c = search needs
 returns-3 : tie.Need-returns-3
 unfolding headOf need
 returns-3 c =
-    let x = c .before .before .before .before .args in
+    let test1 = c .before .before .before in
+    let x = test1 .before .args in
     let short = lt-leb (x .at + x .len) (length (now (x .s))) (omega arith) in
-    simp (lt-ltb _ _ (c .before .before .before .if1 .left), eq-eqb _ _ (c .before .if2 .left), short)
+    simp (lt-ltb _ _ (test1 .if1 .left), eq-eqb _ _ (c .before .if2 .left), short)
 
 add-t13 : tie.Need-add-t13
 add-t13 c = search needs
@@ -37,9 +38,10 @@ add-t13 c = search needs
 returns-4 : tie.Need-returns-4
 unfolding headOf need
 returns-4 c =
-    let x = c .before .before .before .before .args in
+    let test1 = c .before .before .before in
+    let x = test1 .before .args in
     let whole = le-leb (x .at + x .len) (length (now (x .s))) (omega arith) in
-    simp (lt-ltb _ _ (c .before .before .before .if1 .left), eq-eqb _ _ (c .before .if2 .left), whole)
+    simp (lt-ltb _ _ (test1 .if1 .left), eq-eqb _ _ (c .before .if2 .left), whole)
 
 pub head-spec : {M : Type 1} → statement M
 head-spec =

@@ -1,47 +1,53 @@
--- A unit record is read as `unitOf` says: its fields where it lies there whole, and else its head is refused.
-use mathlib.Core.Path.{sym, _∙_}
-use native.Mathlib.Omega.{arith}
+-- A unit record is read as `unitOf` says: its head is refused, or its fields are judged.
+use mathlib.Core.Path.{sym, ap, _∙_}
+use denote.Ref.{now}
 use borrow.Author.Needs.{needs}
-use borrow.Author.Tests.{leb-true}
-use Rattle.numbers.proofs.Choices.{and-both}
 use Rattle.terms.specs.Reply.{next}
-use Rattle.records.specs.Layouts.{unitLength}
+use Rattle.terms.specs.Refusals.{answer}
+use Rattle.records.specs.Layouts.{unitKind, unitLength}
 use Rattle.records.specs.Reading.{unitOf}
-use Rattle.records.proofs.Heads.{whole-head, other-head, handed}
+use Rattle.records.proofs.Heads.{headed}
 use Rattle.records.proofs.units.unit_at.Statement.{statement}
 use Rattle.records.proofs.units.unit_at.Tie as tie
 
-is-whole-requires : tie.Need-is-whole-requires
-is-whole-requires c κs = search needs
+unit-head-requires : tie.Need-unit-head-requires
+unit-head-requires c κs = search needs
 
-unit-judged-requires : tie.Need-unit-judged-requires
-unit-judged-requires c κs = leb-true _ _ (and-both _ _ (sym (c .before .is-whole .ensures) ∙ c .if1 .taken) .0)
+enum-told : tie.Need-enum-told
+enum-told c = search needs
 
-returns : tie.Need-returns
-unfolding unitOf next
-returns c =
-    rw (whole-head _ _ _ unitLength (omega arith) (sym (c .before .before .is-whole .ensures) ∙ c .before .if1 .taken)) (c .unit-judged .ensures)
-
-head-requires : tie.Need-head-requires
-head-requires c κs = search needs
+enum-told-2 : tie.Need-enum-told-2
+enum-told-2 c = search needs
 
 refusal-requires : tie.Need-refusal-requires
 refusal-requires c κs = search needs
 
+returns : tie.Need-returns
+unfolding unitOf next
+returns c =
+    let told = c .before in
+    rw (c .refusal .ensures, ← (told .before .before .unit-head .ensures), told .enum-told2 .given .1)
+
+unit-judged-requires : tie.Need-unit-judged-requires
+unit-judged-requires c κs =
+    let came = c .before .before in
+    let start = came .before .before in
+    headed (now (start .args .s)) (start .args .at) unitKind unitLength (sym (came .unit-head .ensures) ∙ ap answer (c .enum-told .given .1)) .long
+
 returns-2 : tie.Need-returns-2
-unfolding unitOf
+unfolding unitOf next
 returns-2 c =
-    let e = sym (c .before .before .before .is-whole .ensures) ∙ c .before .before .if1 .left in
-    rw (c .refusal .ensures, ← (c .before .head .ensures))
-    (handed (c .before .head .result) _ (λ end r. other-head _ _ _ _ e end (sym (c .before .head .ensures) ∙ r)))
+    let told = c .before in
+    rw (← (told .before .before .unit-head .ensures), told .enum-told .given .1) (c .unit-judged .ensures)
 
 pub unit-at-spec : {M : Type 1} → statement M
 unit-at-spec =
     tie.close
     (tie.spec
-    is-whole-requires
-    unit-judged-requires
-    returns
-    head-requires
+    unit-head-requires
+    enum-told
+    enum-told-2
     refusal-requires
+    returns
+    unit-judged-requires
     returns-2)

@@ -33,8 +33,9 @@ place-of-requires c κs = search needs
 
 add-t11 : tie.Need-add-t11
 add-t11 c =
-    let s = c .before .before .before .before .before .before .before .before in
-    omega (arith, c .place-of .ensures, place-within (c .before .before .before .c .given .0 .0), s .pre, s .good .0)
+    let c-at = c .before .before .before in
+    let s = c-at .before .before .before .before .before in
+    omega (arith, c .place-of .ensures, place-within (c-at .c .given .0 .0), s .pre, s .good .0)
 
 returns-2 : tie.Need-returns-2
 unfolding unitFieldsOf passed

@@ -1,22 +1,18 @@
 -- The loop's invariant: the whole reading is what is left of it, from the unit here on. A unit read is a turn, a refusal a stop.
-use Prim.Native.Nat.{ℕ, _-_, _≤_}
-use mathlib.Core.Path.{_≡_, sym, ap, _∙_}
-use mathlib.Core.List.{List}
+use Prim.Native.Nat.{_-_}
+use mathlib.Core.Path.{sym, ap, _∙_}
 use native.Mathlib.Omega.{arith}
 use denote.Ref.{now}
 use borrow.Author.Needs.{needs}
+use Rattle.terms.proofs.FirstRefused.{Left, start, turn, stop, end}
 use Rattle.records.specs.Answers.{unitReply}
 use Rattle.records.specs.Reading.{unitsOf}
-use Rattle.records.proofs.Turns.{unit-long, turn, stop, end}
+use Rattle.records.proofs.Turns.{unitsAfter, unit-long, units-steps}
 use Rattle.records.proofs.units.units_from.Statement.{statement}
 use Rattle.records.proofs.units.units_from.Tie as tie
 
-record Going (s : List ℕ) (at count run limit floor here i : ℕ) : Type 0 where
-  pub within : i ≤ count
-  pub so : unitsOf s at 0 run limit count ≡ unitsOf s here floor run limit (count - i)
-
 abbrev Inv-loop : tie.InvT-loop
-Inv-loop s at count run limit floor₀ here₀ i₀ floor here i = Going s at count run limit floor here i
+Inv-loop s at count run limit floor₀ here₀ i₀ floor here i = Left (unitsAfter s run limit) (unitsOf s at 0 run limit count) count i (here, floor)
 
 abbrev μ-loop : tie.MeasureT-loop
 μ-loop s at count run limit floor₀ here₀ i₀ floor here i = count - i
@@ -24,8 +20,7 @@ abbrev μ-loop : tie.MeasureT-loop
 loop-holds : tie.Need-loop-holds Inv-loop μ-loop
 loop-holds c =
     let x = c .before .args in
-    let e : x .count - 0 ≡ x .count = omega arith in
-    record { within = omega arith; so = rw e }
+    start (units-steps (now (x .s)) (x .run) (x .limit)) (x .count) (x .at, 0)
 
 unit-at-requires : tie.Need-unit-at-requires Inv-loop μ-loop
 unit-at-requires c κs = search needs
@@ -41,12 +36,14 @@ refusal-requires c κs = search needs
 
 returns : tie.Need-returns Inv-loop μ-loop
 returns c =
-    let told = c .before .enum-told .given .1 in
-    let v = c .before .before .before .before .before .loop in
-    let x = c .before .before .before .before .before .before .before .args in
-    let e = sym (c .before .before .before .unit-at .ensures) ∙ ap unitReply told in
-    rw (c .refusal .ensures, told)
-    (stop (now (x .s)) (v .here) (v .floor) (x .run) (x .limit) (x .count) (v .i) _ (v .inv .so) _ _ (c .before .before .before .before .loop-test .taken) e)
+    let told = c .before in
+    let unit = told .before .before in
+    let test = unit .before in
+    let v = test .before .loop in
+    let x = test .before .before .before .args in
+    let e = sym (unit .unit-at .ensures) ∙ ap unitReply (told .enum-told .given .1) in
+    rw (c .refusal .ensures, told .enum-told .given .1)
+    (stop (units-steps (now (x .s)) (x .run) (x .limit)) (x .count) (v .i) (v .inv) (test .loop-test .taken) e)
 
 cast-floor : tie.Need-cast-floor Inv-loop μ-loop
 cast-floor c = search needs
@@ -54,13 +51,19 @@ cast-floor c = search needs
 add-floor : tie.Need-add-floor Inv-loop μ-loop
 add-floor c = search needs
 
+length-requires : tie.Need-length-requires Inv-loop μ-loop
+length-requires c κs = search needs
+
 add-here : tie.Need-add-here Inv-loop μ-loop
 add-here c =
-    let v = c .before .before .before .before .before .before .loop in
-    let s = c .before .before .before .before .before .before .before .before in
-    let x = s .args in
-    let e = sym (c .before .before .before .before .unit-at .ensures) ∙ ap unitReply (c .before .before .r .given .1) in
-    omega (arith, unit-long (now (x .s)) (v .here) (v .floor) (x .run) (x .limit) e, s .good .0)
+    let read = c .before .before .before in
+    let unit = read .before .before in
+    let test = unit .before in
+    let v = test .before .loop in
+    let start = test .before .before .before in
+    let x = start .args in
+    let e = sym (unit .unit-at .ensures) ∙ ap unitReply (read .r .given .1) in
+    omega (arith, c .length .ensures, unit-long (now (x .s)) (v .here) (v .floor) (x .run) (x .limit) e, start .good .0)
 
 add-i : tie.Need-add-i Inv-loop μ-loop
 add-i c = search needs
@@ -70,20 +73,20 @@ loop-less c = search needs
 
 loop-again : tie.Need-loop-again Inv-loop μ-loop
 loop-again c =
-    let v = c .before .before .before .before .before .before .loop in
-    let x = c .before .before .before .before .before .before .before .before .args in
-    let e = sym (c .before .before .before .before .unit-at .ensures) ∙ ap unitReply (c .before .before .r .given .1) in
-    let t = c .before .before .before .before .before .loop-test .taken in
-    record {
-      within = omega arith;
-      so = turn (now (x .s)) (v .here) (v .floor) (x .run) (x .limit) (x .count) (v .i) _ (v .inv .so) (c .before .before .r .given .0 .0) t e;
-    }
+    let read = c .before .before .before in
+    let unit = read .before .before in
+    let test = unit .before in
+    let v = test .before .loop in
+    let x = test .before .before .before .args in
+    let e = sym (unit .unit-at .ensures) ∙ ap unitReply (read .r .given .1) in
+    rw (c .length .ensures)
+    (turn (units-steps (now (x .s)) (x .run) (x .limit)) (x .count) (v .i) (v .inv) (test .loop-test .taken) e)
 
 returns-2 : tie.Need-returns-2 Inv-loop μ-loop
 returns-2 c =
     let v = c .before .loop in
     let x = c .before .before .before .args in
-    end (now (x .s)) (v .here) (v .floor) (x .run) (x .limit) (x .count) (v .i) _ (v .inv .so) (c .loop-test .left)
+    end (units-steps (now (x .s)) (x .run) (x .limit)) (x .count) (v .i) (v .inv) (c .loop-test .left)
 
 pub units-from-spec : {M : Type 1} → statement M
 units-from-spec =
@@ -99,6 +102,7 @@ units-from-spec =
     returns
     cast-floor
     add-floor
+    length-requires
     add-here
     add-i
     loop-less

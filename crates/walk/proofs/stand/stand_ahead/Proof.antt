@@ -41,8 +41,9 @@ loop-less c = search needs
 
 loop-again : tie.Need-loop-again Inv-loop μ-loop
 loop-again c =
-    let v = c .before .before .before .loop in
-    let x = c .before .before .before .before .before .args in
+    let loop = c .before .before .before in
+    let v = loop .loop in
+    let x = loop .before .before .args in
     let t = c .before .before .loop-test .taken in
     let one = one-ahead (now (x .s)) (x .steps) (v .i) (v .stand) t in
     record { within = omega arith; so = v .inv .so ∙ rw (c .stand-after .ensures, c .before .next .ensures) one }

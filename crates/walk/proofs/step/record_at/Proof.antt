@@ -23,12 +23,15 @@ refusal-requires c κs = search needs
 
 returns : tie.Need-returns
 unfolding recordOf next
-returns c = rw (c .refusal .ensures, ← (c .before .before .before .head-in .ensures), c .before .enum-told .given .1)
+returns c =
+    let head-in = c .before .before .before in
+    rw (c .refusal .ensures, ← (head-in .head-in .ensures), c .before .enum-told .given .1)
 
 whole-requires : tie.Need-whole-requires
 whole-requires c κs =
-    let x = c .before .before .before .before .before .args in
-    let h = sym (c .before .before .before .head-in .ensures) ∙ ap headReply (c .before .h .given .1) in
+    let head-in = c .before .before .before in
+    let x = head-in .before .before .args in
+    let h = sym (head-in .head-in .ensures) ∙ ap headReply (c .before .h .given .1) in
     group-whole (now (x .s)) (x .at) (x .state) _ h
 
 enum-known-w : tie.Need-enum-known-w
@@ -43,9 +46,11 @@ refusal-requires-2 c κs = search needs
 returns-2 : tie.Need-returns-2
 unfolding recordOf next
 returns-2 c =
-    let k = c .before .before .before .before in
-    let h = sym (k .before .before .before .head-in .ensures) ∙ ap headReply (k .before .h .given .1) in
-    rw (h, c .refusal2 .ensures, ← (c .before .before .before .whole .ensures), c .before .enum-told2 .given .1)
+    let whole = c .before .before .before in
+    let k = whole .before in
+    let head-in = k .before .before .before in
+    let h = sym (head-in .head-in .ensures) ∙ ap headReply (k .before .h .given .1) in
+    rw (h, c .refusal2 .ensures, ← (whole .whole .ensures), c .before .enum-told2 .given .1)
 
 state-after-requires : tie.Need-state-after-requires
 state-after-requires c κs = search needs
@@ -53,9 +58,11 @@ state-after-requires c κs = search needs
 returns-3 : tie.Need-returns-3
 unfolding recordOf next
 returns-3 c =
-    let k = c .before .before .before .before .before in
-    let h = sym (k .before .before .before .head-in .ensures) ∙ ap headReply (k .before .h .given .1) in
-    rw (h, c .state-after .ensures, ← (c .before .before .before .before .whole .ensures), c .before .before .w .given .1)
+    let whole = c .before .before .before .before in
+    let k = whole .before in
+    let head-in = k .before .before .before in
+    let h = sym (head-in .head-in .ensures) ∙ ap headReply (k .before .h .given .1) in
+    rw (h, c .state-after .ensures, ← (whole .whole .ensures), c .before .before .w .given .1)
 
 pub record-at-spec : {M : Type 1} → statement M
 record-at-spec =

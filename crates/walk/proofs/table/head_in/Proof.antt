@@ -24,9 +24,10 @@ body-requires c κs = search needs
 returns-2 : tie.Need-returns-2
 unfolding headIn need
 returns-2 c =
-    let x = c .before .before .before .before .before .args in
+    let test1 = c .before .before .before in
+    let x = test1 .before .before .args in
     let body = bodyOf (x .state) (byteAt (now (x .s)) (x .at)) in
-    simp (lt-ltb _ _ (c .before .before .before .if1 .left), le-ltb 0 body (omega (arith, c .before .body .ensures)))
+    simp (lt-ltb _ _ (test1 .if1 .left), le-ltb 0 body (omega (arith, c .before .body .ensures)))
 
 sub-if3 : tie.Need-sub-if3
 sub-if3 c = search needs
@@ -34,28 +35,34 @@ sub-if3 c = search needs
 returns-3 : tie.Need-returns-3
 unfolding headIn need
 returns-3 c =
-    let x = c .before .before .before .before .before .before .args in
+    let test1 = c .before .before .before .before in
+    let x = test1 .before .before .args in
     let body = bodyOf (x .state) (byteAt (now (x .s)) (x .at)) in
     let b = c .before .before .body .ensures in
     let comes = lt-ltb 0 body (omega arith) in
     let short = lt-leb (x .at + (1 + body)) (length (now (x .s))) (omega arith) in
-    simp (lt-ltb _ _ (c .before .before .before .before .if1 .left), comes, short)
+    simp (lt-ltb _ _ (test1 .if1 .left), comes, short)
+
+role-of-requires : tie.Need-role-of-requires
+role-of-requires c κs = search needs
 
 add-t14 : tie.Need-add-t14
 add-t14 c = search needs
 
-add-t17 : tie.Need-add-t17
-add-t17 c = search needs
+add-t18 : tie.Need-add-t18
+add-t18 c = search needs
 
 returns-4 : tie.Need-returns-4
 unfolding headIn need
 returns-4 c =
-    let x = c .before .before .before .before .before .before .args in
+    let looked = c .before .before .before in
+    let tested = looked .before .before in
+    let x = tested .before .before .args in
     let body = bodyOf (x .state) (byteAt (now (x .s)) (x .at)) in
-    let b = c .before .before .body .ensures in
+    let b = looked .body .ensures in
     let comes = lt-ltb 0 body (omega arith) in
     let whole = le-leb (x .at + (1 + body)) (length (now (x .s))) (omega arith) in
-    simp (lt-ltb _ _ (c .before .before .before .before .if1 .left), comes, whole, b)
+    simp (lt-ltb _ _ (tested .if1 .left), comes, whole, b, c .role-of .ensures)
 
 pub head-in-spec : {M : Type 1} → statement M
 head-in-spec =
@@ -67,6 +74,7 @@ head-in-spec =
     returns-2
     sub-if3
     returns-3
+    role-of-requires
     add-t14
-    add-t17
+    add-t18
     returns-4)

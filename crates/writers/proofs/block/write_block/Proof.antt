@@ -1,16 +1,48 @@
 -- The block writer: what is refused leaves the room as it was, and what is accepted lies at the front of the room.
+use Prim.Native.Nat.{_≤_}
 use mathlib.Core.Path.{sym, ap, _∙_}
 use native.Mathlib.Omega.{arith}
+use lib.ListN.{length}
 use denote.Ref.{now}
-use Rattle.terms.specs.Refusals.{answer}
-use Rattle.writers.specs.Columns.{columns}
-use Rattle.writers.specs.Writing.{groupOver, blockBytes}
-use Rattle.writers.proofs.Lengths.{length-block}
-use Rattle.writers.proofs.Accepted.{accepted, long}
-use Rattle.writers.proofs.Writes.{refuses, writes}
 use borrow.Author.Needs.{needs}
+use Rattle.numbers.proofs.Laid.{laid-next}
+use Rattle.terms.specs.Refusals.{answer}
+use Rattle.records.specs.declared.group.GroupRecord.{GroupRecord}
+use Rattle.records.specs.Layouts.{groupLength, groupBytes}
+use Rattle.writers.specs.Columns.{Columns, columns, count}
+use Rattle.writers.specs.Writing.{groupOver, unitsBytes, blockBytes, blockLength}
+use Rattle.writers.proofs.Lengths.{length-group, length-units, length-block, end-stride}
+use Rattle.writers.proofs.Accepted.{Accepted, accepted, long}
+use Rattle.writers.proofs.Writes.{refuses, writes}
 use Rattle.writers.proofs.block.write_block.Statement.{statement}
 use Rattle.writers.proofs.block.write_block.Tie as tie
+
+-- the function's entry, from the check; the columns and the group that it was given
+abbrev entry : tie.After-check-block → tie.Start
+entry c = c .before .before .before .before .before .before .before
+
+abbrev given : tie.After-check-block → Columns
+given c =
+    let a = entry c .args in
+    columns (now (a .number)) (now (a .class)) (now (a .coincide)) (now (a .nominated)) (now (a .n)) (now (a .pc)) (now (a .step-down)) (now (a .step-up)) (now (a .margins-made))
+
+abbrev group : tie.After-check-block → GroupRecord
+group c =
+    let a = entry c .args in
+    groupOver (a .brp) (a .zone) (a .quarter) (a .made) (given c)
+
+-- past the check
+took : (c : tie.After-enum-told)
+    → Accepted (entry (c .before .before) .args .quarter) (given (c .before .before)) (length (now (entry (c .before .before) .args .room))) (c .enum-told .given .0 .0)
+took c = accepted _ (given (c .before .before)) _ (sym (c .before .before .check-block .ensures) ∙ ap answer (c .enum-told .given .1))
+
+-- the room for the group record, and for the whole
+fits : (c : tie.After-enum-told)
+    → (groupLength ≤ length (now (entry (c .before .before) .args .room))) × (blockLength (given (c .before .before)) ≤ length (now (entry (c .before .before) .args .room)))
+fits c =
+    let v = took c in
+    let k = given (c .before .before) in
+    (omega (arith, v .bytes, v .enough, end-stride k (count k)), omega (arith, v .bytes, v .enough))
 
 check-block-requires : tie.Need-check-block-requires
 check-block-requires c κs = search needs
@@ -23,40 +55,45 @@ enum-told-2 c = search needs
 
 returns : tie.Need-returns
 returns c =
-    let a = c .before .before .before .before .before .before .before .before .before .args in
-    let k = columns (now (a .number)) (now (a .class)) (now (a .coincide)) (now (a .nominated)) (now (a .n)) (now (a .pc)) (now (a .step-down)) (now (a .step-up)) (now (a .margins-made)) in
+    let check = c .before .before in
     let told = c .enum-told2 .given .1 in
-    refuses (blockBytes (groupOver (a .brp) (a .zone) (a .quarter) (a .made) k) k) (now (a .room)) _ told (sym (c .before .before .check-block .ensures) ∙ ap answer told)
+    refuses (blockBytes (group check) (given check)) (now (entry check .args .room)) _ told (sym (check .check-block .ensures) ∙ ap answer told)
 
 cast-new : tie.Need-cast-new
-cast-new c =
-    let a = c .before .before .before .before .before .before .before .before .before .args in
-    let v = accepted (a .quarter) (columns (now (a .number)) (now (a .class)) (now (a .coincide)) (now (a .nominated)) (now (a .n)) (now (a .pc)) (now (a .step-down)) (now (a .step-up)) (now (a .margins-made))) _ (sym (c .before .before .check-block .ensures) ∙ ap answer (c .enum-told .given .1)) in
-    omega (arith, v .group .few)
+cast-new c = omega (arith, took (c .before) .group .few)
 
 new-requires : tie.Need-new-requires
 new-requires c κs = search needs
 
-lay-block-requires : tie.Need-lay-block-requires
-lay-block-requires c κs =
-    let a = c .before .before .before .before .before .before .before .before .before .before .before .args in
-    let k = columns (now (a .number)) (now (a .class)) (now (a .coincide)) (now (a .nominated)) (now (a .n)) (now (a .pc)) (now (a .step-down)) (now (a .step-up)) (now (a .margins-made)) in
-    let v = accepted (a .quarter) k _ (sym (c .before .before .before .before .check-block .ensures) ∙ ap answer (c .before .before .enum-told .given .1)) in
-    rw (c .before .new .ensures) (long k (v .evenly) (v .group .few), omega (arith, v .bytes, v .enough))
+lay-group-requires : tie.Need-lay-group-requires
+lay-group-requires c κs = omega (arith, fits (c .before .before) .0)
+
+lay-units-requires : tie.Need-lay-units-requires
+lay-units-requires c κs =
+    let new = c .before .before .before .before in
+    let passed = new .before .before in
+    let v = took passed in
+    (long (given (passed .before .before)) (v .evenly) (v .group .few), omega (arith, fits passed .1))
 
 same-length : tie.Need-same-length
 same-length c = search needs
 
 returns-2 : tie.Need-returns-2
+unfolding blockBytes
 returns-2 c =
-    let d = c .before .before in
-    let a = c .before .before .before .before .before .before .before .before .before .before .before .before .before .before .args in
-    let k = columns (now (a .number)) (now (a .class)) (now (a .coincide)) (now (a .nominated)) (now (a .n)) (now (a .pc)) (now (a .step-down)) (now (a .step-up)) (now (a .margins-made)) in
-    let told = d .before .before .before .enum-told .given .1 in
-    let q = sym (d .before .before .before .before .before .check-block .ensures) ∙ ap answer told in
-    let v = accepted (a .quarter) k _ q in
-    let g = groupOver (a .brp) (a .zone) (a .quarter) (a .made) k in
-    rw told (writes (blockBytes g k) (now (a .room)) q (length-block g k ∙ sym (v .bytes)) (rw (d .before .before .new .ensures) at (d .lay-block .ensures)))
+    let units = c .before .before in
+    let first = units .before .before .before .before in
+    let passed = first .before .before .before in
+    let check = passed .before .before in
+    let k = given check in
+    let g = group check in
+    let room = now (entry check .args .room) in
+    let told = passed .enum-told .given .1 in
+    let n = length-group g in
+    let m = length-units k (count k) in
+    let put = rw (first .before .new .ensures) at (first .lay-group .ensures) in
+    let all = laid-next room 0 (groupBytes g) groupLength (unitsBytes k (count k)) put (units .lay-units .ensures) (omega arith) (omega (arith, fits passed .1)) in
+    rw told (writes (blockBytes g k) room (sym (check .check-block .ensures) ∙ ap answer told) (length-block g k ∙ sym (took passed .bytes)) all)
 
 pub write-block-spec : {M : Type 1} → statement M
 write-block-spec =
@@ -68,6 +105,7 @@ write-block-spec =
     returns
     cast-new
     new-requires
-    lay-block-requires
+    lay-group-requires
+    lay-units-requires
     same-length
     returns-2)

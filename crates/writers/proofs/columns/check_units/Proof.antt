@@ -1,45 +1,61 @@
 -- The loop's invariant: what is told of all the units is what is told from unit i on. A unit that passes is a turn, a fault ends it.
-use Prim.Native.Nat.{ℕ, _-_, _≤_}
+use Prim.Native.Nat.{ℕ, _-_}
 use mathlib.Core.Path.{_≡_, refl, sym, _∙_}
 use native.Mathlib.Numerals.{add-one}
 use native.Mathlib.Omega.{arith}
+use lib.ListN.{length}
 use denote.Ref.{now}
 use borrow.Author.Needs.{needs}
-use Rattle.terms.specs.Refusals.{unitsFrom}
+use Rattle.terms.specs.Reply.{next}
+use Rattle.terms.specs.Refusals.{firstFault}
 use Rattle.terms.specs.declared.refusal.Checked.{Checked}
-use Rattle.terms.proofs.Scan.{scan-on, scan-out, scan-end}
+use Rattle.terms.proofs.FirstRefused.{Left, start, turn, stop, end}
+use Rattle.terms.proofs.Scan.{scan-steps, step-on, step-out}
 use Rattle.records.specs.declared.unit.UnitRecord.{UnitRecord}
 use Rattle.records.specs.Reading.{valueFaults}
-use Rattle.writers.specs.Columns.{Columns, columns, rowOf, floorAt, unitChecks}
+use Rattle.writers.specs.Columns.{Columns, columns, rowOf, count, floorAt, rowChecks}
+use Rattle.writers.specs.Writing.{unitsEnd, unitsChecked}
+use Rattle.writers.proofs.Lengths.{end-stride}
+use Rattle.writers.proofs.Accepted.{long-below}
 use Rattle.writers.proofs.columns.check_units.Statement.{statement}
 use Rattle.writers.proofs.columns.check_units.Tie as tie
 
--- the units below i have passed, and the floor is that of unit i
-record Going (k : Columns) (units floor i : ℕ) : Type 0 where
-  pub within : i ≤ units
+-- the units below i have passed, and floor and end are those of unit i
+record Going (k : Columns) (floor end i : ℕ) : Type 0 where
   pub least : floor ≡ floorAt k i
-  pub so : unitsFrom (unitChecks k) 0 units ≡ unitsFrom (unitChecks k) i (units - i)
+  pub on : end ≡ unitsEnd k i
+  pub so : Left (firstFault (rowChecks k)) (firstFault (rowChecks k) 0 (count k)) (count k) i i
 
 -- what was told of the row is the check of its index
 checked : (k : Columns) (i : ℕ) {u : UnitRecord} {floor : ℕ} {f g : Checked} → u ≡ rowOf k i → floor ≡ floorAt k i → f ≡ valueFaults u floor → f ≡ g
-    → unitChecks k i ≡ g
+    → rowChecks k i ≡ g
 checked k i e l f g = rw (← e, ← l) (sym f ∙ g)
 
 abbrev Inv-loop : tie.InvT-loop
-Inv-loop number class coincide nominated n pc step-down step-up made units floor₀ i₀ floor i =
-    Going (columns number class coincide nominated n pc step-down step-up made) units floor i
+Inv-loop number class coincide nominated n pc step-down step-up made floor₀ end₀ i₀ floor end i =
+    Going (columns number class coincide nominated n pc step-down step-up made) floor end i
 
 abbrev μ-loop : tie.MeasureT-loop
-μ-loop number class coincide nominated n pc step-down step-up made units floor₀ i₀ floor i = units - i
+μ-loop number class coincide nominated n pc step-down step-up made floor₀ end₀ i₀ floor end i = length number - i
+
+-- the function's entry, from the loop, and the columns that it was given
+abbrev entry : tie.At-loop Inv-loop μ-loop → tie.Start Inv-loop μ-loop
+entry c = c .before .before .before .before .before .before
+
+abbrev given : tie.Start Inv-loop μ-loop → Columns
+given s =
+    let a = s .args in
+    columns (now (a .number)) (now (a .class)) (now (a .coincide)) (now (a .nominated)) (now (a .n)) (now (a .pc)) (now (a .step-down)) (now (a .step-up)) (now (a .made))
 
 loop-holds : tie.Need-loop-holds Inv-loop μ-loop
-unfolding floorAt
+unfolding floorAt unitsEnd
 loop-holds c =
-    let e : c .before .before .before .before .before .args .units - 0 ≡ c .before .before .before .before .before .args .units = omega arith in
-    record { within = omega arith; least = refl; so = rw e }
+    let start-at = c .before .before .before .before .before in
+    let k = given start-at in
+    record { least = refl; on = refl; so = start (scan-steps (rowChecks k)) (count k) 0 }
 
 row-requires : tie.Need-row-requires Inv-loop μ-loop
-row-requires c κs = (c .before .before .before .before .before .before .before .pre, c .loop-test .taken)
+row-requires c κs = long-below (given (entry (c .before))) (entry (c .before) .pre) (c .loop-test .taken)
 
 faults-requires : tie.Need-faults-requires Inv-loop μ-loop
 faults-requires c κs = search needs
@@ -51,13 +67,16 @@ why-requires : tie.Need-why-requires Inv-loop μ-loop
 why-requires c κs = search needs
 
 returns : tie.Need-returns Inv-loop μ-loop
+unfolding unitsChecked next
 returns c =
     let f = c .before .before in
-    let l = f .before .before .before .before .before .loop in
-    let a = c .before .before .before .before .before .before .before .before .before .before .before .before .before .args in
-    let k = columns (now (a .number)) (now (a .class)) (now (a .coincide)) (now (a .nominated)) (now (a .n)) (now (a .pc)) (now (a .step-down)) (now (a .step-up)) (now (a .made)) in
-    let e = checked k (l .i) (f .before .before .before .row .ensures) (l .inv .least) (f .before .before .faults .ensures) (f .f .given .1) in
-    rw (c .why .ensures) (sym (l .inv .so ∙ scan-out (unitChecks k) (l .i) (a .units) _ (f .before .before .before .before .loop-test .taken) e))
+    let faulty = f .before .before in
+    let unit = faulty .before in
+    let t = unit .before in
+    let l = t .before .loop in
+    let k = given (entry (t .before)) in
+    let e = checked k (l .i) (unit .row .ensures) (l .inv .least) (faulty .faults .ensures) (f .f .given .1) in
+    rw (c .why .ensures, ← (stop (scan-steps (rowChecks k)) (count k) (l .i) (l .inv .so) (t .loop-test .taken) (step-out (rowChecks k) e)))
 
 enum-told : tie.Need-enum-told Inv-loop μ-loop
 enum-told c = search needs
@@ -68,6 +87,17 @@ cast-floor c = search needs
 add-floor : tie.Need-add-floor Inv-loop μ-loop
 add-floor c = search needs
 
+length-requires : tie.Need-length-requires Inv-loop μ-loop
+length-requires c κs = search needs
+
+add-end : tie.Need-add-end Inv-loop μ-loop
+add-end c =
+    let match = c .before .before .before in
+    let t = match .before .before .before in
+    let l = t .before .loop in
+    let s = entry (t .before) in
+    omega (arith, c .length .ensures, l .inv .on, end-stride (given s) (l .i), t .loop-test .taken, s .pre .few)
+
 add-i : tie.Need-add-i Inv-loop μ-loop
 add-i c = search needs
 
@@ -75,23 +105,28 @@ loop-less : tie.Need-loop-less Inv-loop μ-loop
 loop-less c = search needs
 
 loop-again : tie.Need-loop-again Inv-loop μ-loop
-unfolding floorAt rowOf
+unfolding floorAt unitsEnd
 loop-again c =
-    let t = c .before .before in
-    let l = c .before .before .before .before .before .before .loop in
-    let a = c .before .before .before .before .before .before .before .before .before .before .before .before .args in
-    let k = columns (now (a .number)) (now (a .class)) (now (a .coincide)) (now (a .nominated)) (now (a .n)) (now (a .pc)) (now (a .step-down)) (now (a .step-up)) (now (a .made)) in
-    let h = c .before .before .before .before .before .loop-test .taken in
-    let u = c .before .before .before .before .row .ensures in
-    let e = checked k (l .i) u (l .inv .least) (c .before .before .before .faults .ensures) (c .before .enum-told .given .1) in
-    record { within = omega arith; least = rw (add-one (l .i), u); so = l .inv .so ∙ scan-on (unitChecks k) (l .i) (a .units) h e }
+    let told = c .before .before in
+    let faulty = told .before .before in
+    let unit = faulty .before in
+    let t = unit .before in
+    let l = t .before .loop in
+    let k = given (entry (t .before)) in
+    let e = checked k (l .i) (unit .row .ensures) (l .inv .least) (faulty .faults .ensures) (told .enum-told .given .1) in
+    record {
+      least = rw (add-one (l .i), unit .row .ensures);
+      on = rw (add-one (l .i), c .length .ensures, l .inv .on);
+      so = turn (scan-steps (rowChecks k)) (count k) (l .i) (l .inv .so) (t .loop-test .taken) (step-on (rowChecks k) e);
+    }
 
 returns-2 : tie.Need-returns-2 Inv-loop μ-loop
+unfolding unitsChecked next
 returns-2 c =
     let l = c .before .loop in
-    let a = c .before .before .before .before .before .before .before .args in
-    let k = columns (now (a .number)) (now (a .class)) (now (a .coincide)) (now (a .nominated)) (now (a .n)) (now (a .pc)) (now (a .step-down)) (now (a .step-up)) (now (a .made)) in
-    sym (l .inv .so ∙ scan-end (unitChecks k) (l .i) (a .units) (c .loop-test .left))
+    let k = given (entry (c .before)) in
+    let all : l .i ≡ count k = omega (arith, l .inv .so .within, c .loop-test .left) in
+    rw (← (end (scan-steps (rowChecks k)) (count k) (l .i) (l .inv .so) (c .loop-test .left)), l .inv .on, all)
 
 pub check-units-spec : {M : Type 1} → statement M
 check-units-spec =
@@ -108,6 +143,8 @@ check-units-spec =
     enum-told
     cast-floor
     add-floor
+    length-requires
+    add-end
     add-i
     loop-less
     loop-again

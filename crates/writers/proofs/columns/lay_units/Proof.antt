@@ -1,77 +1,95 @@
--- Each turn lays the record of one unit more behind those laid so far.
-use Prim.Native.Nat.{ℕ, _-_}
-use mathlib.Core.Path.{_≡_}
+-- Each turn lays the record of one unit more where the one before ends.
+use Prim.Native.Nat.{ℕ, _+_, _-_, _≤_, _<_}
+use mathlib.Core.Path.{_≡_, sym, _∙_}
 use mathlib.Core.List.{List}
 use native.Mathlib.Omega.{arith}
 use lib.ListN.{length}
 use denote.Ref.{now}
-use Rattle.records.specs.Layouts.{unitBytes}
+use borrow.Author.Needs.{needs}
+use Rattle.records.specs.Layouts.{groupLength, unitLength, unitBytes}
 use Rattle.writers.specs.Columns.{Columns, columns, rowOf}
 use Rattle.writers.specs.Writing.{unitsBytes}
-use Rattle.writers.proofs.Lengths.{length-unit}
-use Rattle.writers.proofs.Runs.{Going, start, turn, end}
+use Rattle.writers.proofs.Lengths.{length-unit, length-units}
+use Rattle.writers.proofs.Accepted.{long-below}
+use Rattle.writers.proofs.Runs.{Going, start, next-fits, turn, end}
 use Rattle.writers.proofs.columns.lay_units.Statement.{statement}
 use Rattle.writers.proofs.columns.lay_units.Tie as tie
 
 abbrev records : Columns → ℕ → List ℕ
 records k i = unitBytes (rowOf k i)
 
-each : (k : Columns) (i : ℕ) → length (records k i) ≡ 26
-each k i = length-unit (rowOf k i)
-
 abbrev Inv-loop : tie.InvT-loop
-Inv-loop room₀ at number class coincide nominated n pc step-down step-up made units i₀ room i =
-    Going (records (columns number class coincide nominated n pc step-down step-up made)) 26 units at room₀ room i
+Inv-loop room₀ number class coincide nominated n pc step-down step-up made units here₀ i₀ room here i =
+    Going (records (columns number class coincide nominated n pc step-down step-up made)) units groupLength room₀ room here i
 
 abbrev μ-loop : tie.MeasureT-loop
-μ-loop room₀ at number class coincide nominated n pc step-down step-up made units i₀ room i = units - i
+μ-loop room₀ number class coincide nominated n pc step-down step-up made units here₀ i₀ room here i = units - i
+
+-- the function's entry, from the loop, and the columns that it was given
+abbrev entry : tie.At-loop Inv-loop μ-loop → tie.Start Inv-loop μ-loop
+entry c = c .before .before .before .before .before .before .before
+
+abbrev given : tie.Start Inv-loop μ-loop → Columns
+given s =
+    let a = s .args in
+    columns (now (a .number)) (now (a .class)) (now (a .coincide)) (now (a .nominated)) (now (a .n)) (now (a .pc)) (now (a .step-down)) (now (a .step-up)) (now (a .made))
+
+-- there is a unit more, and its record fits
+below : (c : tie.In-loop Inv-loop μ-loop) → c .before .loop .i < entry (c .before) .args .units
+below c = omega (arith, c .loop-test .taken)
+
+fits : (c : tie.In-loop Inv-loop μ-loop) → c .before .loop .here + unitLength ≤ length (c .before .loop .room)
+fits c =
+    let s = entry (c .before) in
+    let l = c .before .loop in
+    omega (arith, next-fits (records (given s)) (s .args .units) groupLength (now (s .args .room)) (l .i) (l .inv) (below c), length-unit (rowOf (given s) (l .i)))
 
 loop-holds : tie.Need-loop-holds Inv-loop μ-loop
+unfolding unitsBytes
 loop-holds c =
-    let s = c .before .before .before .before .before .before in
-    let a = s .args in
-    let k = columns (now (a .number)) (now (a .class)) (now (a .coincide)) (now (a .nominated)) (now (a .n)) (now (a .pc)) (now (a .step-down)) (now (a .step-up)) (now (a .made)) in
-    start (records k) 26 (each k) (a .units) (a .at) (now (a .room)) (s .pre .1)
+    let known = c .before in
+    let s = known .before .before .before .before .before in
+    let units = s .args .units in
+    start (records (given s)) units groupLength (now (s .args .room)) (omega (arith, length-units (given s) units, s .pre .1))
 
 row-requires : tie.Need-row-requires Inv-loop μ-loop
-row-requires c κs = (c .before .before .before .before .before .before .before .before .pre .0, c .loop-test .taken)
-
-mul-lay-unit : tie.Need-mul-lay-unit Inv-loop μ-loop
-mul-lay-unit c =
-    let v = c .before .before .before .loop .inv in
-    let t = c .before .before .loop-test .taken in
-    omega (arith, v .fits, c .before .before .before .before .before .before .before .before .before .before .good)
-
-add-lay-unit : tie.Need-add-lay-unit Inv-loop μ-loop
-add-lay-unit c =
-    let v = c .before .before .before .loop .inv in
-    let t = c .before .before .loop-test .taken in
-    omega (arith, v .fits, c .before .before .before .before .before .before .before .before .before .before .good)
+row-requires c κs = long-below (given (entry (c .before))) (entry (c .before) .pre .0) (below c)
 
 lay-unit-requires : tie.Need-lay-unit-requires Inv-loop μ-loop
-lay-unit-requires c κs =
-    let v = c .before .before .before .loop .inv in
-    let t = c .before .before .loop-test .taken in
-    omega (arith, v .fits, v .kept)
+lay-unit-requires c κs = fits (c .before .before)
+
+length-requires : tie.Need-length-requires Inv-loop μ-loop
+length-requires c κs = search needs
+
+add-here : tie.Need-add-here Inv-loop μ-loop
+add-here c =
+    let lay-unit = c .before .before .before in
+    let t = lay-unit .before .before .before in
+    omega (arith, c .length .ensures, fits t, t .before .loop .inv .kept, entry (t .before) .good)
 
 add-i : tie.Need-add-i Inv-loop μ-loop
 add-i c =
-    let t = c .before .before .before .before .before .loop-test .taken in
-    omega (arith, c .before .before .before .before .before .before .before .before .before .before .before .before .before .pre .0 .few)
+    let lay-unit = c .before .before .before in
+    let t = lay-unit .before .before .before in
+    omega (arith, below t, entry (t .before) .pre .0 .few)
 
 loop-less : tie.Need-loop-less Inv-loop μ-loop
 loop-less c =
-    let t = c .before .before .before .before .before .loop-test .taken in
-    omega arith
+    let lay-unit = c .before .before .before in
+    let t = lay-unit .before .before .before in
+    omega (arith, below t)
 
 loop-again : tie.Need-loop-again Inv-loop μ-loop
 loop-again c =
-    let s = c .before .before .before .before .before .before .before .before .before .before .before .before .before in
-    let a = s .args in
-    let l = c .before .before .before .before .before .before .loop in
-    let k = columns (now (a .number)) (now (a .class)) (now (a .coincide)) (now (a .nominated)) (now (a .n)) (now (a .pc)) (now (a .step-down)) (now (a .step-up)) (now (a .made)) in
-    let put = rw (c .before .before .before .before .row .ensures) at (c .before .before .lay-unit .ensures) in
-    turn (records k) 26 (each k) (a .units) (a .at) (now (a .room)) (l .i) (l .inv) (c .before .before .before .before .before .loop-test .taken) put
+    let lay-unit = c .before .before .before in
+    let unit = lay-unit .before .before in
+    let t = unit .before in
+    let l = t .before .loop in
+    let s = entry (t .before) in
+    let k = given s in
+    let put = rw (unit .row .ensures) at (lay-unit .lay-unit .ensures) in
+    let on : c .length .result ≡ length (records k (l .i)) = c .length .ensures ∙ sym (length-unit (rowOf k (l .i))) in
+    rw on (turn (records k) (s .args .units) groupLength (now (s .args .room)) (l .i) (l .inv) (below t) put)
 
 same-length : tie.Need-same-length Inv-loop μ-loop
 same-length c = c .before .loop .inv .kept
@@ -79,10 +97,9 @@ same-length c = c .before .loop .inv .kept
 returns : tie.Need-returns Inv-loop μ-loop
 unfolding unitsBytes
 returns c =
-    let a = c .before .before .before .before .before .before .before .before .args in
+    let s = entry (c .before) in
     let l = c .before .loop in
-    let k = columns (now (a .number)) (now (a .class)) (now (a .coincide)) (now (a .nominated)) (now (a .n)) (now (a .pc)) (now (a .step-down)) (now (a .step-up)) (now (a .made)) in
-    end (records k) 26 (each k) (a .units) (a .at) (now (a .room)) (l .i) (l .inv) (c .loop-test .left)
+    end (records (given s)) (s .args .units) groupLength (now (s .args .room)) (l .i) (l .inv) (omega (arith, c .loop-test .left))
 
 pub lay-units-spec : {M : Type 1} → statement M
 lay-units-spec =
@@ -92,9 +109,9 @@ lay-units-spec =
     μ-loop
     loop-holds
     row-requires
-    mul-lay-unit
-    add-lay-unit
     lay-unit-requires
+    length-requires
+    add-here
     add-i
     loop-less
     loop-again

@@ -1,7 +1,5 @@
 -- The day record: each field is laid where the one before ends.
-use Prim.Native.Nat.{ℕ, _+_}
 use mathlib.Core.Path.{refl}
-use mathlib.Core.List.{List, [], _∷_, _++_}
 use native.Mathlib.Omega.{arith}
 use denote.Ref.{now}
 use Rattle.numbers.proofs.Laid.{laid-next}
@@ -53,15 +51,10 @@ returns c =
     let h = s .pre in
     let l = now (s .args .room) in
     let i = s .args .at in
-    let d = s .args .d in
-    let v : List ℕ = 1 ∷ bytes16 (d .day) in
-    let w = v ++ (d .quarters ∷ []) in
-    let x = w ++ bytes32 (d .run) in
-    let y = x ++ bytes16 (d .«position_limit») in
-    let e2 = laid-next l i v (i + 3) (d .quarters ∷ []) (d1 .lay-head .ensures) (d2 .lay-u8 .ensures) refl (omega arith) in
-    let e3 = laid-next l i w (i + 4) (bytes32 (d .run)) e2 (d3 .lay-u32 .ensures) refl (omega arith) in
-    let e4 = laid-next l i x (i + 8) (bytes16 (d .«position_limit»)) e3 (d4 .lay-u16 .ensures) refl (omega arith) in
-    laid-next l i y (i + 10) (bytes16 (d .«margin_limit»)) e4 (d5 .lay-u162 .ensures) refl (omega arith)
+    let e2 = laid-next l i _ _ _ (d1 .lay-head .ensures) (d2 .lay-u8 .ensures) refl (omega arith) in
+    let e3 = laid-next l i _ _ _ e2 (d3 .lay-u32 .ensures) refl (omega arith) in
+    let e4 = laid-next l i _ _ _ e3 (d4 .lay-u16 .ensures) refl (omega arith) in
+    laid-next l i _ _ _ e4 (d5 .lay-u162 .ensures) refl (omega arith)
 
 pub lay-day-spec : {M : Type 1} → statement M
 lay-day-spec =

@@ -1,7 +1,5 @@
 -- The end record: its count is laid behind its kind.
-use Prim.Native.Nat.{_+_}
 use mathlib.Core.Path.{refl}
-use mathlib.Core.List.{[], _∷_}
 use native.Mathlib.Omega.{arith}
 use denote.Ref.{now}
 use Rattle.numbers.proofs.Laid.{laid-next}
@@ -29,8 +27,7 @@ returns c =
     let d2 = c .before .before in
     let d1 = d2 .before .before .before .before in
     let s = d1 .before .before .before in
-    let i = s .args .at in
-    laid-next (now (s .args .room)) i (15 ∷ []) (i + 1) (bytes32 (s .args .e .groups)) (d1 .lay-u8 .ensures) (d2 .lay-u32 .ensures) refl (omega arith)
+    laid-next (now (s .args .room)) (s .args .at) _ _ _ (d1 .lay-u8 .ensures) (d2 .lay-u32 .ensures) refl (omega arith)
 
 pub lay-end-spec : {M : Type 1} → statement M
 lay-end-spec =

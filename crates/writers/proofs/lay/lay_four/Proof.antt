@@ -1,13 +1,11 @@
 -- Four quantities: runs that follow each other are one.
-use Prim.Native.Nat.{_+_}
 use mathlib.Core.Path.{refl}
-use mathlib.Core.List.{_++_}
 use native.Mathlib.Omega.{arith}
 use denote.Ref.{now}
 use Rattle.numbers.proofs.Laid.{laid-next}
 use mir.Facts.{toZ-ofZ}
-use Rattle.numbers.specs.Bytes.{bytes16, bytes32, bits32}
-use Rattle.writers.specs.Runs.{quantities}
+use Rattle.numbers.specs.Bytes.{bytes16, bytes32}
+use Rattle.writers.specs.Inner.{quantities}
 use borrow.Author.Needs.{needs}
 use Rattle.writers.proofs.lay.lay_four.Statement.{statement}
 use Rattle.writers.proofs.lay.lay_four.Tie as tie
@@ -46,17 +44,13 @@ returns c =
     let s = d1 .before .before .before in
     let l = now (s .args .room) in
     let i = s .args .at in
-    let w = bytes32 (bits32 (s .args .a)) in
-    let x = bytes32 (bits32 (s .args .b)) in
-    let y = bytes32 (bits32 (s .args .c)) in
-    let z = bytes32 (bits32 (s .args .d)) in
     let e1 = rw (toZ-ofZ (s .fits .a)) at (d1 .lay-i32 .ensures) in
     let e2 = rw (toZ-ofZ (s .fits .b)) at (d2 .lay-i322 .ensures) in
     let e3 = rw (toZ-ofZ (s .fits .c)) at (d3 .lay-i323 .ensures) in
     let e4 = rw (toZ-ofZ (s .fits .d)) at (d4 .lay-i324 .ensures) in
-    let f = laid-next l i w (i + 4) x e1 e2 refl (omega arith) in
-    let g = laid-next l i (w ++ x) (i + 8) y f e3 refl (omega arith) in
-    laid-next l i (w ++ x ++ y) (i + 12) z g e4 refl (omega arith)
+    let f = laid-next l i _ _ _ e1 e2 refl (omega arith) in
+    let g = laid-next l i _ _ _ f e3 refl (omega arith) in
+    laid-next l i _ _ _ g e4 refl (omega arith)
 
 pub lay-four-spec : {M : Type 1} → statement M
 lay-four-spec =

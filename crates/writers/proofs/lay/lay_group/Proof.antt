@@ -1,7 +1,5 @@
 -- The group record: each part is laid where the one before ends.
-use Prim.Native.Nat.{ℕ, _+_}
 use mathlib.Core.Path.{refl}
-use mathlib.Core.List.{List, [], _∷_, _++_}
 use native.Mathlib.Omega.{arith}
 use denote.Ref.{now}
 use Rattle.numbers.proofs.Laid.{laid-next}
@@ -39,11 +37,8 @@ returns c =
     let h = s .pre in
     let l = now (s .args .room) in
     let i = s .args .at in
-    let g = s .args .g in
-    let v : List ℕ = 2 ∷ bytes16 (g .brp) in
-    let w = g .zone ∷ g .quarter ∷ g .count ∷ [] in
-    let e = laid-next l i v (i + 3) w (d1 .lay-head .ensures) (d2 .lay-three .ensures) refl (omega arith) in
-    laid-next l i (v ++ w) (i + 6) (bytes32 (g .made)) e (d3 .lay-u32 .ensures) refl (omega arith)
+    let e = laid-next l i _ _ _ (d1 .lay-head .ensures) (d2 .lay-three .ensures) refl (omega arith) in
+    laid-next l i _ _ _ e (d3 .lay-u32 .ensures) refl (omega arith)
 
 pub lay-group-spec : {M : Type 1} → statement M
 lay-group-spec =

@@ -1,7 +1,5 @@
 -- A number behind a kind: two runs that follow each other are one.
-use Prim.Native.Nat.{_+_}
 use mathlib.Core.Path.{refl}
-use mathlib.Core.List.{[], _∷_}
 use native.Mathlib.Omega.{arith}
 use denote.Ref.{now}
 use Rattle.numbers.proofs.Laid.{laid-next}
@@ -28,8 +26,7 @@ returns c =
     let b = c .before .before in
     let a = b .before .before .before .before in
     let s = a .before .before .before in
-    let i = s .args .at in
-    laid-next (now (s .args .room)) i (s .args .kind ∷ []) (i + 1) (bytes16 (s .args .first)) (a .lay-u8 .ensures) (b .lay-u16 .ensures) refl (omega arith)
+    laid-next (now (s .args .room)) (s .args .at) _ _ _ (a .lay-u8 .ensures) (b .lay-u16 .ensures) refl (omega arith)
 
 pub lay-head-spec : {M : Type 1} → statement M
 lay-head-spec =

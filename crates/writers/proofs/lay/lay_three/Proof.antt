@@ -1,7 +1,5 @@
 -- Three bytes: runs that follow each other are one.
-use Prim.Native.Nat.{_+_}
 use mathlib.Core.Path.{refl}
-use mathlib.Core.List.{[], _∷_}
 use native.Mathlib.Omega.{arith}
 use denote.Ref.{now}
 use Rattle.numbers.proofs.Laid.{laid-next}
@@ -35,10 +33,8 @@ returns c =
     let s = a .before .before .before in
     let l = now (s .args .room) in
     let i = s .args .at in
-    let x = s .args .a ∷ [] in
-    let y = s .args .b ∷ [] in
-    let e = laid-next l i x (i + 1) y (a .lay-u8 .ensures) (b .lay-u82 .ensures) refl (omega arith) in
-    laid-next l i (s .args .a ∷ y) (i + 2) (s .args .c ∷ []) e (d .lay-u83 .ensures) refl (omega arith)
+    let e = laid-next l i _ _ _ (a .lay-u8 .ensures) (b .lay-u82 .ensures) refl (omega arith) in
+    laid-next l i _ _ _ e (d .lay-u83 .ensures) refl (omega arith)
 
 pub lay-three-spec : {M : Type 1} → statement M
 lay-three-spec =

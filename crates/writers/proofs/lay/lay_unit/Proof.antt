@@ -1,7 +1,5 @@
 -- The unit record: each part is laid where the one before ends.
-use Prim.Native.Nat.{ℕ, _+_}
 use mathlib.Core.Path.{_≡_, refl}
-use mathlib.Core.List.{List, [], _∷_, _++_}
 use native.Mathlib.Omega.{arith}
 use denote.Ref.{now}
 use Rattle.numbers.proofs.Laid.{laid-next}
@@ -10,7 +8,7 @@ use mir.Val.{toZ, ofZ}
 use mir.Facts.{toZ-ofZ}
 use Rattle.numbers.specs.Bytes.{bytes16, bytes32}
 use Rattle.records.specs.Layouts.{behind, unitBytes}
-use Rattle.writers.specs.Runs.{quantities}
+use Rattle.writers.specs.Inner.{quantities}
 use borrow.Author.Needs.{needs}
 use Rattle.writers.proofs.lay.lay_unit.Statement.{statement}
 use Rattle.writers.proofs.lay.lay_unit.Tie as tie
@@ -32,7 +30,11 @@ lay-four-requires c κs = search needs
 
 add-lay-u32 : tie.Need-add-lay-u32
 add-lay-u32 c =
-    let s = c .before .before .before .before .before .before .before .before .before .before .before .before .before .before .before .before .before .before .before .before in
+    let four = c .before .before .before in
+    let told = four .before .before .before in
+    let three = told .before .before .before .before .before in
+    let lay-head = three .before .before .before .before in
+    let s = lay-head .before .before .before .before .before in
     omega (arith, s .pre, s .good)
 
 lay-u32-requires : tie.Need-lay-u32-requires
@@ -46,7 +48,8 @@ unfolding unitBytes quantities behind bytes32 bytes16
 returns c =
     let d4 = c .before .before in
     let d3 = d4 .before .before .before .before in
-    let d2 = d3 .before .before .before .before .before .before .before .before in
+    let told = d3 .before .before .before in
+    let d2 = told .before .before .before .before .before in
     let d1 = d2 .before .before .before .before in
     let s = d1 .before .before .before .before .before in
     let h = s .pre in
@@ -58,13 +61,10 @@ returns c =
     let zp : toZ w32 (ofZ w32 (u .pc .0)) ≡ u .pc .0 = toZ-ofZ (record { sfits = k .1 .0 .1 .1 .0 .1 }) in
     let zd : toZ w32 (ofZ w32 (u .«step_down»)) ≡ u .«step_down» = toZ-ofZ (record { sfits = k .1 .1 .0 .1 }) in
     let zu : toZ w32 (ofZ w32 (u .«step_up»)) ≡ u .«step_up» = toZ-ofZ (record { sfits = k .1 .1 .1 .0 .1 }) in
-    let v : List ℕ = 3 ∷ bytes16 (u .number) in
-    let w = u .class ∷ u .coincide ∷ u .nominated ∷ [] in
-    let x = quantities (u .n .0) (u .pc .0) (u .«step_down») (u .«step_up») in
     let q = rw (zn, zp, zd, zu) at (d3 .lay-four .ensures) in
-    let e = laid-next l i v (i + 3) w (d1 .lay-head .ensures) (d2 .lay-three .ensures) refl (omega arith) in
-    let f = laid-next l i (v ++ w) (i + 6) x e q refl (omega arith) in
-    laid-next l i (v ++ w ++ x) (i + 22) (bytes32 (u .made)) f (d4 .lay-u32 .ensures) refl (omega arith)
+    let e = laid-next l i _ _ _ (d1 .lay-head .ensures) (d2 .lay-three .ensures) refl (omega arith) in
+    let f = laid-next l i _ _ _ e q refl (omega arith) in
+    laid-next l i _ _ _ f (d4 .lay-u32 .ensures) refl (omega arith)
 
 pub lay-unit-spec : {M : Type 1} → statement M
 lay-unit-spec =

@@ -30,8 +30,9 @@ refused-requires-2 c κs = search needs
 returns-2 : tie.Need-returns-2
 unfolding writeDayOf roomFor need
 returns-2 c =
-    let s = c .before .before .before .before .before in
-    let q = sym (c .before .before .before .permits .ensures) ∙ not-false _ (c .before .before .if1 .left) in
+    let permits = c .before .before .before in
+    let s = permits .before .before in
+    let q = sym (permits .permits .ensures) ∙ not-false _ (c .before .before .if1 .left) in
     refuses (dayBytes (s .args .d)) (now (s .args .room)) _ (c .refused2 .ensures) (simp (q, lt-leb _ _ (c .before .if2 .taken)))
 
 lay-day-requires : tie.Need-lay-day-requires
@@ -44,8 +45,9 @@ returns-3 : tie.Need-returns-3
 unfolding writeDayOf roomFor need dayBytes behind bytes32 bytes16
 returns-3 c =
     let l = c .before .before in
-    let s = l .before .before .before .before .before .before in
-    let q = sym (l .before .before .before .before .permits .ensures) ∙ not-false _ (l .before .before .before .if1 .left) in
+    let test1 = l .before .before .before in
+    let s = test1 .before .before .before in
+    let q = sym (test1 .before .permits .ensures) ∙ not-false _ (test1 .if1 .left) in
     writes (dayBytes (s .args .d)) (now (s .args .room)) (simp (q, le-leb _ _ (l .before .before .if2 .left))) refl (l .lay-day .ensures)
 
 pub write-day-spec : {M : Type 1} → statement M

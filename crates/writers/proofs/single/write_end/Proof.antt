@@ -33,8 +33,9 @@ returns-2 : tie.Need-returns-2
 unfolding writeEndOf roomFor need endBytes behind bytes32 bytes16
 returns-2 c =
     let l = c .before .before in
-    let s = l .before .before .before .before .before in
-    writes (endBytes (record { groups = s .args .groups })) (now (s .args .room)) (simp (le-leb _ _ (l .before .before .before .if1 .left))) refl (rw (l .before .new .ensures) at (l .lay-end .ensures))
+    let test = l .before .before .before in
+    let s = test .before .before in
+    writes (endBytes (record { groups = s .args .groups })) (now (s .args .room)) (simp (le-leb _ _ (test .if1 .left))) refl (rw (l .before .new .ensures) at (l .lay-end .ensures))
 
 pub write-end-spec : {M : Type 1} → statement M
 write-end-spec =

@@ -34,7 +34,8 @@ returns c =
 
 sub-result-2 : tie.Need-sub-result-2
 sub-result-2 c =
-    let s = c .before .before .before .before .before .before .before .before in
+    let test1 = c .before .before .before .before .before in
+    let s = test1 .before .before .before in
     let x = s .args .s in
     let low = s .args .self .low in
     let high = s .args .self .high in
@@ -46,7 +47,8 @@ sub-result-2 c =
 returns-2 : tie.Need-returns-2
 unfolding excessOf
 returns-2 c =
-    let s = c .before .before .before .before .before .before .before .before in
+    let test1 = c .before .before .before .before .before in
+    let s = test1 .before .before .before in
     let x = s .args .s in
     let low = s .args .self .low in
     let high = s .args .self .high in
@@ -54,19 +56,20 @@ returns-2 c =
     let fl : SFits w32 low = omega zarith in
     let fh : SFits w32 high = omega zarith in
     let g : SFits w32 (x -ℤ low) = omega (zarith, minus x low) in
-    simp (toZ-ofZ, plain-lt fh fx (c .before .before .before .before .before .if1 .left), plain-lt fx fl (c .before .before .if2 .taken))
+    simp (toZ-ofZ, plain-lt fh fx (test1 .if1 .left), plain-lt fx fl (c .before .before .if2 .taken))
 
 returns-3 : tie.Need-returns-3
 unfolding excessOf
 returns-3 c =
-    let s = c .before .before .before .before .before .before in
+    let test1 = c .before .before .before in
+    let s = test1 .before .before .before in
     let x = s .args .s in
     let low = s .args .self .low in
     let high = s .args .self .high in
     let fx : SFits w32 x = omega zarith in
     let fl : SFits w32 low = omega zarith in
     let fh : SFits w32 high = omega zarith in
-    simp (plain-lt fh fx (c .before .before .before .if1 .left), plain-lt fx fl (c .if2 .left))
+    simp (plain-lt fh fx (test1 .if1 .left), plain-lt fx fl (c .if2 .left))
 
 pub excess-spec : {M : Type 1} → statement M
 excess-spec = tie.close (tie.spec sub-result returns sub-result-2 returns-2 returns-3)

@@ -7,10 +7,14 @@ returns : tie.Need-returns
 returns c = rw (ne-eqb _ _ (c .before .before .if1 .taken))
 
 returns-2 : tie.Need-returns-2
-returns-2 c = rw (eq-eqb _ _ (c .before .before .before .before .before .if1 .left), ne-eqb _ _ (c .before .before .if2 .taken))
+returns-2 c =
+    let test1 = c .before .before .before .before .before in
+    rw (eq-eqb _ _ (test1 .if1 .left), ne-eqb _ _ (c .before .before .if2 .taken))
 
 returns-3 : tie.Need-returns-3
-returns-3 c = rw (eq-eqb _ _ (c .before .before .before .before .before .if1 .left), eq-eqb _ _ (c .before .before .if2 .left))
+returns-3 c =
+    let test1 = c .before .before .before .before .before in
+    rw (eq-eqb _ _ (test1 .if1 .left), eq-eqb _ _ (c .before .before .if2 .left))
 
 pub is-below-spec : {M : Type 1} → statement M
 is-below-spec = tie.close (tie.spec returns returns-2 returns-3)

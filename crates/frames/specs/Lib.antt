@@ -1,0 +1,3 @@
+-- What is promised of a reply.
+pub mod Frames
+pub mod Inner

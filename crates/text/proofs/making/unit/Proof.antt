@@ -1,0 +1,87 @@
+-- 12 leaves the room as it is, and else the record lies in its place, and the block is whole with the last unit.
+use mathlib.Core.Path.{refl, sym, _∙_}
+use Prim.Native.Nat.{_+_, _≤_}
+use denote.Ref.{now}
+use lib.ListN.{length}
+use Rattle.records.specs.Layouts.{unitLength}
+use native.Mathlib.Omega.{arith}
+use borrow.Author.Tests.{not-true, not-false, lt-leb, le-leb, leb-true}
+use Rattle.text.specs.Making.{unitMade, unitTurn}
+use borrow.Author.Needs.{needs}
+use Rattle.text.proofs.making.unit.Statement.{statement}
+use Rattle.text.proofs.making.unit.Tie as tie
+
+has-room-requires : tie.Need-has-room-requires
+has-room-requires c κs = search needs
+
+returns : tie.Need-returns
+unfolding unitTurn
+returns c = rw (sym (c .before .has-room .ensures) ∙ not-true _ (c .if1 .taken)) (record { answered = refl; left = refl })
+
+add-next : tie.Need-add-next
+add-next c =
+    let start = c .before .before .before in
+    let h : start .args .b .here + unitLength ≤ length (now (start .args .room)) = leb-true _ _ (sym (c .before .has-room .ensures) ∙ not-false _ (c .if1 .left)) in
+    omega (arith, h)
+
+lay-unit-requires : tie.Need-lay-unit-requires
+lay-unit-requires c κs =
+    let long = c .before in
+    leb-true _ _ (sym (long .before .has-room .ensures) ∙ not-false _ (long .if1 .left))
+
+found-in-requires : tie.Need-found-in-requires
+found-in-requires c κs = search needs
+
+whole-requires : tie.Need-whole-requires
+whole-requires c κs = search needs
+
+same-length : tie.Need-same-length
+same-length c = search needs
+
+returns-2 : tie.Need-returns-2
+unfolding unitTurn unitMade
+returns-2 c =
+    let last = c .before in
+    let found = last .before .before in
+    let lay = found .before .before .before in
+    let long = lay .before .before in
+    rw (sym (long .before .has-room .ensures) ∙ not-false _ (long .if1 .left), le-leb _ _ (last .if2 .taken), ← (found .found-in .ensures)) (record { answered = c .whole .ensures; left = lay .lay-unit .ensures })
+
+sub-t15 : tie.Need-sub-t15
+sub-t15 c = search needs
+
+cast-t16 : tie.Need-cast-t16
+cast-t16 c = search needs
+
+add-t17 : tie.Need-add-t17
+add-t17 c = search needs
+
+same-length-2 : tie.Need-same-length-2
+same-length-2 c = search needs
+
+returns-3 : tie.Need-returns-3
+unfolding unitTurn unitMade
+returns-3 c =
+    let last = c .before .before in
+    let found = last .before .before in
+    let lay = found .before .before .before in
+    let long = lay .before .before in
+    rw (sym (long .before .has-room .ensures) ∙ not-false _ (long .if1 .left), lt-leb _ _ (last .if2 .left), ← (found .found-in .ensures)) (record { answered = refl; left = lay .lay-unit .ensures })
+
+pub unit-spec : {M : Type 1} → statement M
+unit-spec =
+    tie.close
+    (tie.spec
+    has-room-requires
+    returns
+    add-next
+    lay-unit-requires
+    found-in-requires
+    whole-requires
+    same-length
+    returns-2
+    sub-t15
+    cast-t16
+    add-t17
+    same-length-2
+    returns-3)

@@ -1,0 +1,5 @@
+-- The text form of a day, docs/TEXT.md.
+pub mod Numbers
+pub mod Fields
+pub mod Line
+pub mod Making

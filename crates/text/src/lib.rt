@@ -1,0 +1,5 @@
+// The text form of a day, docs/TEXT.md: what a line is, and the records and blocks that lines make.
+mod fields;
+pub mod line;
+pub mod making;
+mod numbers_in;

@@ -1,0 +1,36 @@
+-- What inner functions ask of each other: no promise rests on it.
+use Prim.Native.Nat.{ℕ, _+_, _≤_}
+use mathlib.Core.List.{List, _++_}
+use lib.IntN.{ℤ}
+use lib.ListN.{length}
+use Rattle.numbers.specs.Bytes.{bytes32, bits32}
+use Rattle.terms.specs.Checks.{mostUnits}
+use Rattle.records.specs.Layouts.{u8, u16, i32, size}
+use Rattle.writers.specs.Columns.{Columns}
+
+-- the columns are long enough for so many units, no more than a group may have
+pub record Long (units : ℕ) (c : Columns) : Type 0 where
+  pub few : units ≤ mostUnits
+  pub number : units ≤ length (c .number)
+  pub class : units ≤ length (c .class)
+  pub coincide : units ≤ length (c .coincide)
+  pub nominated : units ≤ length (c .nominated)
+  pub n : units ≤ length (c .n)
+  pub pc : units ≤ length (c .pc)
+  pub step-down : units ≤ length (c .step-down)
+  pub step-up : units ≤ length (c .step-up)
+  pub made : units ≤ length (c .made)
+
+-- how many bytes parts of a record have: a kind and a number, three fields of a byte each, four of signed kWh
+abbrev pub headLength : ℕ
+headLength = size u8 + size u16
+
+abbrev pub threeLength : ℕ
+threeLength = size u8 + size u8 + size u8
+
+abbrev pub fourLength : ℕ
+fourLength = size i32 + size i32 + size i32 + size i32
+
+-- four fields of signed kWh
+unfoldable pub quantities : ℤ → ℤ → ℤ → ℤ → List ℕ
+quantities a b c d = bytes32 (bits32 a) ++ bytes32 (bits32 b) ++ bytes32 (bits32 c) ++ bytes32 (bits32 d)
