@@ -1,3 +1,2 @@
 -- What is promised of a reply.
 pub mod Frames
-pub mod Inner

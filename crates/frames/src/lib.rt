@@ -1,10 +1,9 @@
 // The replies to the frames of docs/PROBE.md.
 ghost use Rattle.frames.specs.Frames.{Answered};
 
-mod columns;
 mod days;
+mod groups;
 mod laying;
-mod reading;
 mod rooms;
 mod steps;
 mod writes;
@@ -20,7 +19,7 @@ fn replied(call: u8, body: &[u8], reply: &mut [u8; LONGEST]) -> usize {
         return 0;
     }
     match call {
-        1 => columns::judged(body, reply),
+        1 => groups::replied(body, reply),
         3 => days::checked(body, reply),
         7 => steps::step(body, reply),
         8 => steps::walker(body, reply),

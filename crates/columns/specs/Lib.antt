@@ -1,0 +1,3 @@
+-- What is promised of columns that are handed over.
+pub mod Handing
+pub mod Inner
