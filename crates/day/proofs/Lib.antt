@@ -4,6 +4,7 @@ pub mod Filling
 pub mod Laying
 pub mod Read
 pub mod Units
+pub mod Telling
 pub mod Passing
 pub mod Taking
 pub mod ByKind

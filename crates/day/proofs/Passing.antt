@@ -104,6 +104,18 @@ module _ {s : List ℕ} {p : ℤ} {cut : Cut} {taken : List ℕ} {n0 x1 x2 down 
   pub aligned : {third : List ℤ} → length third ≡ length n0 → Aligned x2 down up third
   aligned l = rw (w .downs, w .ups) (judging.cut-aligned h (w .off) (l ∙ ap length (w .starts)))
 
+  pub explained : Explained taken n0 x1 x2 down up
+  explained =
+      let n = sym start-count in
+      record {
+        firsts = first-count ∙ n;
+        seconds = second-count ∙ n;
+        downs = ap length (w .downs) ∙ column-length _ (blockCount s) ∙ n;
+        ups = ap length (w .ups) ∙ column-length _ (blockCount s) ∙ n;
+        places = ap length (w .marks) ∙ column-length _ (blockCount s) ∙ n;
+        told = rw (w .marks) (bit-small (blockCount s) (λ k. unitImplicit (unitIn s k)));
+      }
+
   module _ {s3 : ℤ} {x3 : List ℤ} (third : s3 ≡ sumZ (step3All x2 down up)) (stretched : x3 ≡ step3All x2 down up) where
     third-sum : s3 ≡ sumZ (step3All x2 (blockGroup s .stepDown) (blockGroup s .stepUp))
     third-sum = third ∙ rw (w .downs, w .ups)
@@ -113,19 +125,6 @@ module _ {s : List ℕ} {p : ℤ} {cut : Cut} {taken : List ℕ} {n0 x1 x2 down 
 
     pub summable : Within 64000000 p × (Within 64000000 (cut .s1) × (Within 128000000 (cut .e) × Within 64000000 s3))
     summable = rw (w .sold) (judging.cut-summed h (w .off) third-sum)
-
-    pub explained : Explained taken n0 x1 x2 x3 down up
-    explained =
-        let n = sym start-count in
-        record {
-          firsts = first-count ∙ n;
-          seconds = second-count ∙ n;
-          thirds = third-count ∙ n;
-          downs = ap length (w .downs) ∙ column-length _ (blockCount s) ∙ n;
-          ups = ap length (w .ups) ∙ column-length _ (blockCount s) ∙ n;
-          places = ap length (w .marks) ∙ column-length _ (blockCount s) ∙ n;
-          told = rw (w .marks) (bit-small (blockCount s) (λ k. unitImplicit (unitIn s k)));
-        }
 
     module _ {why : List ℕ} (reasoned : why ≡ reasonsAll taken n0 x1 x2 x3 down up) where
       why-count : length why ≡ length n0

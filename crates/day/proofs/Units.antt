@@ -1,7 +1,7 @@
--- A loop over the units of a block that passed: the columns are filled up to the unit here, and p is the sum of PC up to it.
+-- A loop over the units of a block: the columns are filled up to the unit here, and p is the sum of PC up to it.
 use Prim.Native.Nat.{ℕ, _+_, _*_, _≤_, _<_}
 use mathlib.Core.Path.{_≡_, refl, sym, ap, _∙_}
-use mathlib.Core.Bool.{Bool, true, false}
+use mathlib.Core.Bool.{Bool, true, false, false≢true}
 use mathlib.Core.List.{List}
 use native.Mathlib.Omega.{arith}
 use native.Mathlib.Numerals.{add-one}
@@ -16,13 +16,23 @@ use Rattle.numbers.specs.Sum.{sumZ, bit}
 use Rattle.numbers.proofs.Integers.{zarith, plus}
 use Rattle.numbers.proofs.Sums.{sumZ-column}
 use Rattle.terms.specs.Checks.{mostUnits}
+use Rattle.terms.specs.Reply.{Reply, is, refused}
+use Rattle.terms.specs.declared.refusal.Checked.the-variants.{Fine}
+use Rattle.terms.proofs.Replies.{never}
+use Rattle.terms.proofs.FirstRefused as reading
+use Rattle.terms.proofs.FirstRefused.{Left}
+use Rattle.group.proofs.Amounts.{faults-none, none-faulty}
 use Rattle.records.specs.declared.unit.UnitRecord.{UnitRecord}
-use Rattle.records.specs.Layouts.{groupLength, unitLength, lengthOf, marginsOf}
-use Rattle.records.specs.Reading.{placeFrom, unitPlace, unitIn}
+use Rattle.records.specs.Layouts.{groupLength, unitLength, lengthOf, marginsOf, unitAt}
+use Rattle.records.specs.Reading.{placeFrom, unitPlace, unitIn, unitOf, unitFaults}
 use Rattle.records.specs.Decoding.{unitN0, unitImplicit, pcIn}
+use Rattle.records.specs.Inner.{isWhole, marksPass}
 use Rattle.records.proofs.Accepted.{Sound, unit-in, unit-whole}
+use Rattle.records.proofs.Marks.{Marked, marks-enough, unit-read}
+use Rattle.records.proofs.Turns.{unitsAfter, units-steps}
 use Rattle.day.specs.Blocks.{blockCount}
-use Rattle.day.specs.Inner.{Passed, UnitRoom, Decoded}
+use Rattle.day.specs.declared.decode.Reading.{Reading}
+use Rattle.day.specs.Inner.{Begun, Passed, UnitRoom, Decoded, Amounts, unitsAt, UnitsRead}
 use Rattle.day.proofs.Filling.{Filled, fill-none, fill-more, fill-all}
 
 -- the unit of an index passed its checks, and lies whole in the block
@@ -59,14 +69,22 @@ module _ {f : ℕ → ℤ} {i p : ℕ} (a : Added f i p) (few : i ≤ mostUnits)
       let n : sumZ (column (i + 1) f) ≡ sumZ (column i f) +ℤ z = rw (add-one i, e) (sumZ-column _ i) in
       record { total = eq ∙ rw n; small = rw n (omega (zarith, a .small, plus (sumZ (column i f)) z)) }
 
-module _ (s : List ℕ) (class₀ taken₀ : List ℕ) (n0₀ down₀ up₀ : List ℤ) where
+-- a block whose units pass: no nomination and no margins of theirs fail
+pub amounts-passed : (s : List ℕ) (run limit : ℕ) → Begun s → {end : ℕ} → unitsAt s run limit ≡ is end → (i : ℕ) → i < blockCount s → Amounts s i
+amounts-passed s run limit b e i l =
+    let u = unit-in s run limit (blockCount s) (b .long) e i l in
+    none-faulty _ _ (u .n0) (u .step-down) (u .step-up) (u .ordered)
+
+module _ (s : List ℕ) (run limit : ℕ) (class₀ taken₀ : List ℕ) (n0₀ down₀ up₀ : List ℤ) where
   abbrev count : ℕ
   count = blockCount s
 
-  pub record Going (class taken : List ℕ) (n0 down up : List ℤ) (here p i : ℕ) : Type 0 where
-    pub passed : Passed s
+  -- the columns are filled up to unit i, which begins here; where no nomination and no margins failed so far, the units left are all that is to be read
+  pub record Going (class taken : List ℕ) (n0 down up : List ℤ) (here floor p i : ℕ) : Type 0 where
+    pub begun : Begun s
     pub within : i ≤ count
     pub place : here ≡ unitPlace s i
+    pub left : ((j : ℕ) → j < i → Amounts s j) → Left (unitsAfter s run limit) (unitsAt s run limit) count i (here, floor)
     pub sold : Added (λ (k : ℕ). unitIn s k .pc .0) i p
     pub classes : Filled (λ (k : ℕ). unitIn s k .class) count i class₀ class
     pub marks : Filled (λ (k : ℕ). bit (unitImplicit (unitIn s k))) count i taken₀ taken
@@ -74,13 +92,14 @@ module _ (s : List ℕ) (class₀ taken₀ : List ℕ) (n0₀ down₀ up₀ : Li
     pub downs : Filled (λ (k : ℕ). marginsOf (unitIn s k) .«step_down») count i down₀ down
     pub ups : Filled (λ (k : ℕ). marginsOf (unitIn s k) .«step_up») count i up₀ up
 
-  pub start : Passed s → UnitRoom count class₀ taken₀ n0₀ down₀ up₀ → Going class₀ taken₀ n0₀ down₀ up₀ groupLength 0 0
+  pub start : Begun s → UnitRoom count class₀ taken₀ n0₀ down₀ up₀ → Going class₀ taken₀ n0₀ down₀ up₀ groupLength 0 0 0
   unfolding sumZ column placeFrom
   start b r =
       record {
-        passed = b;
+        begun = b;
         within = omega arith;
         place = refl;
+        left = λ all. reading.start (units-steps s run limit) count (groupLength, 0);
         sold = record { total = refl; small = omega zarith };
         classes = fill-none _ _ _ (r .classes);
         marks = fill-none _ _ _ (r .marks);
@@ -89,35 +108,55 @@ module _ (s : List ℕ) (class₀ taken₀ : List ℕ) (n0₀ down₀ up₀ : Li
         ups = fill-none _ _ _ (r .ups);
       }
 
-  module _ {class taken : List ℕ} {n0 down up : List ℤ} {here p i : ℕ} (g : Going class taken n0 down up here p i) where
+  module _ {class taken : List ℕ} {n0 down up : List ℤ} {here floor p i : ℕ} (g : Going class taken n0 down up here floor p i) where
     pub upto : i ≤ mostUnits
-    upto = omega (arith, g .within, g .passed .few)
+    upto = omega (arith, g .within, g .begun .few)
 
     pub below : i < length n0 → i < count
     below h = omega (arith, g .starts .long)
 
     module _ (l : i < count) where
-      pub sound : {u : UnitRecord} → u ≡ unitIn s i → Sound u
-      sound v = rw v (unit-sound (g .passed) i l)
+      -- a unit here that is not whole, or whose marks do not pass, is refused: so the units do not pass
+      pub stopped : ((u : UnitRecord) → unitOf s here floor run limit ≡ is u → ⊥) → (end : ℕ) → unitsAt s run limit ≡ is end → ⊥
+      stopped unread end e =
+          let all = amounts-passed s run limit (g .begun) e in
+          go (g .left (λ j k. all j (omega arith))) (unitOf s here floor run limit) refl
+        where
+          go : Left (unitsAfter s run limit) (unitsAt s run limit) count i (here, floor) → (r : Reply UnitRecord) → unitOf s here floor run limit ≡ r → ⊥
+          go left (is u) q = unread u q
+          go left (refused n k) q = never (reading.stop (units-steps s run limit) count i left l q ∙ e)
 
       -- the values of the unit of index i are stored
-      pub turn : {u : UnitRecord} → u ≡ unitIn s i → {k m q h : ℕ} {z x y : ℤ}
+      pub turn : {u : UnitRecord} → u ≡ unitIn s i → Marked u → isWhole s here ≡ true → marksPass u floor run limit ≡ true
+          → {k m q h f : ℕ} {z x y : ℤ}
           → k ≡ u .class → m ≡ bit (unitImplicit u) → z ≡ unitN0 u → x ≡ marginsOf u .«step_down» → y ≡ marginsOf u .«step_up»
-          → h ≡ here + lengthOf u → q ≡ ofZ w32 (sumZ (pcIn s i) +ℤ u .pc .0)
-          → Going (set class i k) (set taken i m) (set n0 i z) (set down i x) (set up i y) h q (i + 1)
+          → h ≡ here + lengthOf u → f ≡ u .number + 1 → q ≡ ofZ w32 (sumZ (pcIn s i) +ℤ u .pc .0)
+          → Going (set class i k) (set taken i m) (set n0 i z) (set down i x) (set up i y) h f q (i + 1)
       unfolding placeFrom
-      turn v ek em ez ex ey eh eq =
+      turn {u} v w there passes {h = h} {f = f} ek em ez ex ey eh ef eq =
           record {
-            passed = g .passed;
+            begun = g .begun;
             within = omega arith;
             place = eh ∙ ap (λ (k : ℕ). k + unitLength) (g .place) ∙ ap (placeFrom s groupLength) (sym (add-one i));
-            sold = added-more (g .sold) upto (rw v) (sound v .pc) eq;
+            left = onward;
+            sold = added-more (g .sold) upto (rw v) (w .pc) eq;
             classes = fill-more _ _ _ i class _ l (ek ∙ rw v) (g .classes);
             marks = fill-more _ _ _ i taken _ l (em ∙ rw v) (g .marks);
             starts = fill-more _ _ _ i n0 _ l (ez ∙ rw v) (g .starts);
             downs = fill-more _ _ _ i down _ l (ex ∙ rw v) (g .downs);
             ups = fill-more _ _ _ i up _ l (ey ∙ rw v) (g .ups);
           }
+        where
+          is-here : u ≡ unitAt s here
+          is-here = v ∙ ap (unitAt s) (sym (g .place))
+
+          onward : ((j : ℕ) → j < i + 1 → Amounts s j) → Left (unitsAfter s run limit) (unitsAt s run limit) count (i + 1) (h, f)
+          onward all =
+              let a = faults-none _ _ (all i (omega arith)) in
+              let fine : unitFaults (unitAt s here) floor run limit ≡ Fine =
+              rw (← is-here) (marks-enough u floor run limit passes (rw v (a .0)) (rw v (a .1 .0)) (rw v (a .1 .1 .0)) (rw v (a .1 .1 .1))) in
+              let next = reading.turn (units-steps s run limit) count i (g .left (λ j k. all j (omega arith))) l (unit-read s here floor run limit there fine) in
+              rw (eh ∙ ap (λ (x : UnitRecord). here + lengthOf x) is-here, ef ∙ ap (λ (x : UnitRecord). x .number + 1) is-here) next
 
     pub end : count ≤ i → Decoded s (toZ w32 p) class taken n0 down up
     end l =
@@ -131,3 +170,18 @@ module _ (s : List ℕ) (class₀ taken₀ : List ℕ) (n0₀ down₀ up₀ : Li
           downs = fill-all _ _ _ i down h l (g .downs);
           ups = fill-all _ _ _ i up h l (g .ups);
         }
+
+    pub ended : count ≤ i → ((j : ℕ) → j < count → Amounts s j) → unitsAt s run limit ≡ is here
+    ended l all =
+        let h = g .within in
+        sym (reading.end (units-steps s run limit) count i (g .left (λ j k. all j (omega arith))) l)
+
+-- a reading that was broken off, and one that came to its end
+module _ (s : List ℕ) (run limit : ℕ) {r : Reading} {class taken : List ℕ} {n0 down up : List ℤ} where
+  pub broken : r .whole ≡ false → ((end : ℕ) → unitsAt s run limit ≡ is end → ⊥) → UnitsRead s run limit r class taken n0 down up
+  broken w none =
+      record { decoded = λ t. absurd (false≢true (sym w ∙ t)); ends = λ t all. absurd (false≢true (sym w ∙ t)); fails = λ _. none }
+
+  pub came : r .whole ≡ true → Decoded s (r .p .0) class taken n0 down up → (((i : ℕ) → i < blockCount s → Amounts s i) → unitsAt s run limit ≡ is (r .end))
+      → UnitsRead s run limit r class taken n0 down up
+  came w d e = record { decoded = λ _. d; ends = λ _. e; fails = λ f. absurd (false≢true (sym f ∙ w)) }

@@ -21,12 +21,17 @@ use Rattle.day.specs.Days.{possible}
 abbrev pub blockOf : GroupRecord → ℕ → Block
 blockOf group end = record { key = keyOf group; count = group .count; used = end; written = resultLength (group .count) }
 
--- the group's fields, 4, 5, 13, 10, and then each unit in turn
+-- each unit in turn, at a run minute and an age limit of margins
+abbrev pub blockUnitsOf : List ℕ → GroupRecord → ℕ → ℕ → Reply Block
+blockUnitsOf s group run limit =
+    next (unitsOf s groupLength 0 run limit (group .count)) λ end.
+    is (blockOf group end)
+
+-- the group's fields, 4, 5, 13, 10, and then the units
 unfoldable pub blockFieldsOf : Day → List ℕ → Reply Block
 blockFieldsOf day s =
     next (groupFieldsOf s (day .«record») (day .last)) λ group.
-    next (unitsOf s groupLength 0 (day .«record» .run) (day .«record» .«margin_limit») (group .count)) λ end.
-    is (blockOf group end)
+    blockUnitsOf s group (day .«record» .run) (day .«record» .«margin_limit»)
 
 -- a block checked: 1 if empty, 2, 1, then fields
 unfoldable pub checkOf : Day → List ℕ → Reply Block

@@ -2,8 +2,11 @@
 ghost use mathlib.Core.Path.{_≡_};
 ghost use Prim.Native.Nat.{_≤_};
 ghost use lib.ListN.{length};
-ghost use Rattle.records.specs.Layouts.{groupLength};
-ghost use Rattle.day.specs.Checking.{blockOf, blockReply, blockRefusal, blockFieldsOf, checkOf};
+ghost use Rattle.records.specs.Layouts.{groupLength, groupAt};
+ghost use Rattle.day.specs.Blocks.{blockCount};
+ghost use Rattle.day.specs.Checking.{blockOf, blockReply, blockRefusal, blockUnitsOf, blockFieldsOf, checkOf};
+ghost use Rattle.day.specs.Inner.{Begun, UnitRoom, BlockTold};
+use crate::decode::units_into;
 use crate::value::Day;
 use records::group::GroupAnswer;
 use records::group::GroupRecord;
@@ -11,7 +14,7 @@ use records::group::group_fields;
 use records::group_result::GroupResult;
 use records::key::Key;
 use records::unit_result::UnitResult;
-use records::units::units_from;
+use terms::quantity::Position;
 use terms::refusal::Answer;
 use terms::refusal::Refusal;
 use terms::refusal::Why;
@@ -61,8 +64,70 @@ impl BlockAnswer {
     }
 }
 
+// A block whose group record passed: P, and the block or the first refusal.
+pub struct Told {
+    pub p: Position,
+    pub block: BlockAnswer,
+}
+
+// The units of a block, checked and read into lent columns. What is still to refuse once they pass stands here, after them: 12 comes last.
+pub fn block_units(
+    s: &[u8],
+    group: GroupRecord,
+    run: u32,
+    limit: u16,
+    class: &mut [u8],
+    taken: &mut [u8],
+    n0: &mut [i32],
+    step_down: &mut [i32],
+    step_up: &mut [i32],
+) -> Told
+    requires { ⌜ Begun (now s) × (group ≡ groupAt (now s) 0) ⌝ }
+    requires { ⌜ UnitRoom (blockCount (now s)) (now class) (now taken) (now n0) (now «step_down») (now «step_up») ⌝ }
+    ensures { λ r. ⌜ BlockTold (now (s .entry)) group run limit r (now (class .exit)) (now (taken .exit)) (now (n0 .exit)) (now («step_down» .exit)) (now («step_up» .exit)) ⌝ }
+{
+    let units = units_into(s, run, limit, class, taken, n0, step_down, step_up);
+    let p = units.p;
+    let u = units.end;
+    let Answer::Is(end) = u else {
+        return Told {
+            p,
+            block: BlockAnswer::Refused(u.refusal()),
+        };
+    };
+    Told {
+        p,
+        block: BlockAnswer::Is(Block::of(group, end)),
+    }
+}
+
+// The units of a block, checked, with columns that are lent to that alone.
+fn units_checked(s: &[u8], group: GroupRecord, run: u32, limit: u16) -> BlockAnswer
+    requires { ⌜ Begun (now s) × (group ≡ groupAt (now s) 0) ⌝ }
+    ensures { λ r. ⌜ blockReply r ≡ blockUnitsOf (now (s .entry)) group run limit ⌝ }
+{
+    let n = group.count as usize;
+    let mut class = [0u8; 64];
+    let mut taken = [0u8; 64];
+    let mut n0 = [0i32; 64];
+    let mut step_down = [0i32; 64];
+    let mut step_up = [0i32; 64];
+    let told = block_units(
+        s,
+        group,
+        run,
+        limit,
+        &mut class[..n],
+        &mut taken[..n],
+        &mut n0[..n],
+        &mut step_down[..n],
+        &mut step_up[..n],
+    );
+    told.block
+}
+
 // The fields of a group record that is there whole, and then its units.
-pub fn block_fields(day: Day, s: &[u8]) -> BlockAnswer
+fn block_fields(day: Day, s: &[u8]) -> BlockAnswer
     requires { ⌜ groupLength ≤ length (now s) ⌝ }
     ensures { λ r. ⌜ blockReply r ≡ blockFieldsOf day (now (s .entry)) ⌝ }
 {
@@ -72,17 +137,7 @@ pub fn block_fields(day: Day, s: &[u8]) -> BlockAnswer
     let GroupAnswer::Is(group) = g else {
         return BlockAnswer::Refused(g.refusal());
     };
-    let u = units_from(
-        s,
-        GroupRecord::LEN,
-        group.count as usize,
-        record.run,
-        record.margin_limit,
-    );
-    let Answer::Is(end) = u else {
-        return BlockAnswer::Refused(u.refusal());
-    };
-    BlockAnswer::Is(Block::of(group, end))
+    units_checked(s, group, record.run, record.margin_limit)
 }
 
 // Whether a block may come, as the next one of a day.

@@ -7,8 +7,7 @@ ghost use Rattle.walk.specs.Answers.{headReply};
 ghost use Rattle.day.specs.Blocks.{blockResult};
 ghost use Rattle.day.specs.Offers.{headFor, dayTaken, blockTaken, endTaken, Gave, Offering, Offers};
 use crate::check::BlockAnswer;
-use crate::check::block_fields;
-use crate::result::write_result;
+use crate::result::take_units;
 use crate::value::Day;
 use records::day::DayAnswer;
 use records::day::DayRecord;
@@ -16,7 +15,8 @@ use records::day::day_fields;
 use records::end::EndAnswer;
 use records::end::EndRecord;
 use records::end::end_fields;
-use records::group::GroupRecord;
+use records::group::GroupAnswer;
+use records::group::group_fields;
 use terms::refusal::Refusal;
 use terms::refusal::Why;
 use walk::table::HeadAnswer;
@@ -73,25 +73,21 @@ fn open_day(day: Day, s: &[u8]) -> Offered
     })
 }
 
-// A block whose head came: it is checked, then the room; its result is written, and the block is counted.
+// A block whose head came: its group record, then its units and the room; its result is written, and the block is counted.
 pub fn take_block(day: Day, s: &[u8], room: &mut [u8]) -> Offered
     requires { ⌜ (groupLength ≤ length (now s)) × (day .groups < 4294967295) ⌝ }
     ensures { λ r. ⌜ Offering (blockTaken day (now (s .entry)) (length (now (room .entry)))) (blockResult (now (s .entry))) day (now (room .entry)) r (now (room .exit)) ⌝ }
 {
-    let b = block_fields(day, s);
+    let record = day.record;
+    let last = day.last;
+    let g = group_fields(s, record, last);
+    let GroupAnswer::Is(group) = g else {
+        return Offered::Refused(g.refusal(), day);
+    };
+    let b = take_units(s, group, record.run, record.margin_limit, room);
     let BlockAnswer::Is(block) = b else {
         return Offered::Refused(b.refusal(), day);
     };
-    if room.len() < block.written {
-        return Offered::Refused(
-            Refusal {
-                why: Why::Room,
-                place: 0,
-            },
-            day,
-        );
-    }
-    write_result(s, block.count as usize, room);
     let key = block.key;
     Offered::Taken(Step {
         used: block.used,

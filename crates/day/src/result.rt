@@ -1,20 +1,23 @@
-// A block that passed its check is judged, and its result is written.
+// The units of a block are checked, then the room; then the block is judged and its result written.
 ghost use mathlib.Core.Path.{_≡_};
 ghost use Prim.Native.Nat.{_≤_};
 ghost use lib.ListN.{length};
 ghost use Rattle.numbers.specs.Bytes.{laidAt};
-ghost use Rattle.writers.specs.Results.{resultLength};
+ghost use Rattle.records.specs.Layouts.{groupAt};
 ghost use Rattle.day.specs.Blocks.{blockResult, blockCount};
-ghost use Rattle.day.specs.Inner.{Passed, UnitRoom, Cutting};
-use crate::decode::units_into;
+ghost use Rattle.day.specs.Inner.{Begun, UnitRoom, Cutting, Taking};
+use crate::check::BlockAnswer;
+use crate::check::block_units;
 use crate::lay::lay_group_result;
 use crate::lay::lay_unit_results;
 use group::judge::Cut;
 use group::judge::cut_all;
-use group::judge::reasons_all;
 use group::judge::step3_all;
 use group::judge::summed;
+use records::group::GroupRecord;
 use terms::quantity::Position;
+use terms::refusal::Refusal;
+use terms::refusal::Why;
 
 // Step 3, the reasons and the result of a block after steps 1 and 2, by way of a lent column.
 fn write_third(
@@ -33,8 +36,7 @@ fn write_third(
     requires { ⌜ Cutting (now s) (p .0) cut (now why) (now n0) (now n1) (now n2) (now «step_down») (now «step_up») (now room) × (length (now n3) ≡ length (now n0)) ⌝ }
     ensures { λ _. ⌜ now (room .exit) ≡ laidAt (now (room .entry)) 0 (blockResult (now (s .entry))) ⌝ }
 {
-    let s3 = step3_all(n2, step_down, step_up, n3);
-    reasons_all(n0, n1, n2, n3, step_down, step_up, why);
+    let s3 = step3_all(n0, n1, n2, step_down, step_up, n3, why);
     lay_unit_results(room, s, why, n0, n1, n2, n3);
     lay_group_result(room, s, summed(p, cut, s3));
 }
@@ -72,9 +74,12 @@ fn write_cut(
     );
 }
 
-// The result of a block at the front of a room, by way of lent columns.
-fn write_through(
+// A block is checked, then the room; then it is judged and its result written, by way of lent columns.
+fn take_through(
     s: &[u8],
+    group: GroupRecord,
+    run: u32,
+    limit: u16,
     room: &mut [u8],
     class: &mut [u8],
     taken: &mut [u8],
@@ -83,22 +88,41 @@ fn write_through(
     n2: &mut [i32],
     step_down: &mut [i32],
     step_up: &mut [i32],
-)
-    requires { ⌜ Passed (now s) × (resultLength (blockCount (now s)) ≤ length (now room)) ⌝ }
+) -> BlockAnswer
+    requires { ⌜ Begun (now s) × (group ≡ groupAt (now s) 0) ⌝ }
     requires { ⌜ UnitRoom (blockCount (now s)) (now class) (now taken) (now n0) (now «step_down») (now «step_up») ⌝ }
     requires { ⌜ (length (now n1) ≡ blockCount (now s)) × (length (now n2) ≡ blockCount (now s)) ⌝ }
-    ensures { λ _. ⌜ now (room .exit) ≡ laidAt (now (room .entry)) 0 (blockResult (now (s .entry))) ⌝ }
+    ensures { λ r. ⌜ Taking (now (s .entry)) group run limit (now (room .entry)) r (now (room .exit)) ⌝ }
 {
-    let p = units_into(s, class, taken, n0, step_down, step_up);
+    let told = block_units(s, group, run, limit, class, taken, n0, step_down, step_up);
+    let b = told.block;
+    let BlockAnswer::Is(block) = b else {
+        return BlockAnswer::Refused(b.refusal());
+    };
+    if room.len() < block.written {
+        return BlockAnswer::Refused(Refusal {
+            why: Why::Room,
+            place: 0,
+        });
+    }
+    let p = told.p;
     let cut = cut_all(p, n0, step_down, step_up, class, n1, n2);
     write_cut(s, p, cut, room, taken, n0, n1, n2, step_down, step_up);
+    BlockAnswer::Is(block)
 }
 
-// The result of a block of n units that passed its check, at the front of a room that is long enough; its columns take 1,408 bytes of stack.
-pub fn write_result(s: &[u8], n: usize, room: &mut [u8])
-    requires { ⌜ Passed (now s) × ((n ≡ blockCount (now s)) × (resultLength n ≤ length (now room))) ⌝ }
-    ensures { λ _. ⌜ now (room .exit) ≡ laidAt (now (room .entry)) 0 (blockResult (now (s .entry))) ⌝ }
+// The units of a block whose group record passed, and then 12; its result is written at the front of the room. Its columns take 1,408 bytes of stack.
+pub fn take_units(
+    s: &[u8],
+    group: GroupRecord,
+    run: u32,
+    limit: u16,
+    room: &mut [u8],
+) -> BlockAnswer
+    requires { ⌜ Begun (now s) × (group ≡ groupAt (now s) 0) ⌝ }
+    ensures { λ r. ⌜ Taking (now (s .entry)) group run limit (now (room .entry)) r (now (room .exit)) ⌝ }
 {
+    let n = group.count as usize;
     let mut class = [0u8; 64];
     let mut taken = [0u8; 64];
     let mut n0 = [0i32; 64];
@@ -106,8 +130,11 @@ pub fn write_result(s: &[u8], n: usize, room: &mut [u8])
     let mut n2 = [0i32; 64];
     let mut step_down = [0i32; 64];
     let mut step_up = [0i32; 64];
-    write_through(
+    take_through(
         s,
+        group,
+        run,
+        limit,
         room,
         &mut class[..n],
         &mut taken[..n],
@@ -116,5 +143,5 @@ pub fn write_result(s: &[u8], n: usize, room: &mut [u8])
         &mut n2[..n],
         &mut step_down[..n],
         &mut step_up[..n],
-    );
+    )
 }

@@ -4,7 +4,7 @@ use mathlib.Core.Path.{_≡_, refl, sym, ap, _∙_}
 use mathlib.Core.List.{List}
 use native.Mathlib.Omega.{arith}
 use lib.IntN.{ℤ, _-ℤ_}
-use lib.ListN.{length}
+use lib.ListN.{length, getD}
 use Rattle.numbers.specs.Range.{Within}
 use Rattle.numbers.specs.Column.{AllWithin}
 use Rattle.numbers.specs.Sum.{sumZ}
@@ -13,7 +13,7 @@ use Rattle.numbers.proofs.Sums.{sum64-within}
 use Rattle.group.specs.Steps.{bandOf, excessOf}
 use Rattle.group.specs.Group.{Group, position, step1All, step2All, step3All, n1, n2, n3}
 use Rattle.group.specs.Columns.{sumsOf, sumsBy}
-use Rattle.group.specs.Inner.{Aligned, Classed, Bearable, Judged, CutOff, Written}
+use Rattle.group.specs.Inner.{Aligned, Classed, Bearable, Judged, CutOff, Written, Explained}
 use Rattle.group.specs.declared.band.Band.{Band}
 use Rattle.group.specs.declared.judge.Cut.{Cut}
 use Rattle.group.specs.declared.judge.Sums.{Sums}
@@ -100,6 +100,10 @@ module _ {p : ℤ} {n0 stepDown stepUp : List ℤ} {class : List ℕ} {first sec
     cut-aligned l =
         let m = sym n2-length in
         rw n2-is (record { few = n2-few; down = h .downs ∙ m; up = h .ups ∙ m; places = l ∙ m; small = n2-small; down-small = h .down-small; up-small = h .up-small })
+
+    pub cut-explained : {taken : List ℕ} → length taken ≡ length n0 → ((i : ℕ) → getD taken i 0 ≤ 1) → Explained taken n0 y1 y2 stepDown stepUp
+    cut-explained l t =
+        record { firsts = ap length (k .clamped) ∙ n1-length; seconds = ap length n2-is ∙ n2-length; downs = h .downs; ups = h .ups; places = l; told = t }
 
     module _ {s3 : ℤ} (third : s3 ≡ sumZ (step3All y2 stepDown stepUp)) where
       s3-is : s3 ≡ sumZ x3

@@ -6,6 +6,7 @@ pub mod Cuts
 pub mod Running
 pub mod Ranges
 pub mod Uncut
+pub mod Explaining
 pub mod Through
 pub mod Losses
 pub mod Landing
@@ -16,3 +17,4 @@ pub mod Margins
 pub mod Demand3
 pub mod Unique
 pub mod Figures
+pub mod Amounts

@@ -1,20 +1,23 @@
 -- What inner functions ask of each other: no promise rests on it.
 use Prim.Native.Nat.{ℕ, _+_, _-_, _≤_}
 use mathlib.Core.Path.{_≡_}
-use mathlib.Core.Bool.{Bool, true, _&&_}
+use mathlib.Core.Bool.{Bool, true, not, _&&_}
 use mathlib.Core.List.{List}
-use lib.Dec.{leb}
+use lib.Dec.{eqb, leb}
 use lib.IntN.{ℤ, natAbs}
 use lib.ListN.{length, getD}
+use lib.Signed.{leZ}
 use Rattle.numbers.specs.Choice.{pick}
 use Rattle.numbers.specs.Range.{Within}
 use Rattle.numbers.specs.Column.{column, at, AllWithin}
-use Rattle.numbers.specs.Sum.{sum, sumZ}
+use Rattle.numbers.specs.Sum.{sum, sumZ, sumTo, bit}
 use Rattle.terms.specs.Quantities.{standing, knownClass, sizeIn}
+use Rattle.terms.specs.Checks.{mostUnits, inRange}
+use Rattle.terms.specs.declared.quantity.Margins.{Margins}
 use Rattle.terms.specs.declared.quantity.Direction.{Direction}
 use Rattle.terms.specs.declared.quantity.Standing.the-variants.{NotEnabled, Enabled}
 use Rattle.group.specs.Steps.{nearerBy, directionOf, excessOf, bandOf}
-use Rattle.group.specs.Group.{sizesOf, cutsFor, step1All, step2All, step3All}
+use Rattle.group.specs.Group.{marginsAt, sizesOf, cutsFor, step1All, step2All, step3All}
 use Rattle.group.specs.Columns.{sumsBy}
 use Rattle.group.specs.declared.judge.Cut.{Cut}
 use Rattle.group.specs.declared.judge.Sums.{Sums}
@@ -99,12 +102,28 @@ pub record Written (p : ℤ) (n0 stepDown stepUp : List ℤ) (class : List ℕ) 
   pub stretched : x3 ≡ step3All x2 stepDown stepUp
   pub replied : sums ≡ sumsBy p (bandOf p) (sumZ x1) (excessOf (bandOf p) (sumZ x1)) (sumZ x2) (sumZ x3)
 
--- columns of one length with n0 to n3 and the margins of each unit, and one that tells by 0 or 1 which nominations are implicit
-pub record Explained (taken : List ℕ) (n0 x1 x2 x3 stepDown stepUp : List ℤ) : Type 0 where
+-- columns of one length with n0 to n2 and the margins of each unit, and one that tells by 0 or 1 which nominations are implicit
+pub record Explained (taken : List ℕ) (n0 x1 x2 stepDown stepUp : List ℤ) : Type 0 where
   pub firsts : length x1 ≡ length n0
   pub seconds : length x2 ≡ length n0
-  pub thirds : length x3 ≡ length n0
   pub downs : length stepDown ≡ length n0
   pub ups : length stepUp ≡ length n0
   pub places : length taken ≡ length n0
   pub told : (i : ℕ) → getD taken i 0 ≤ 1
+
+-- columns of one length, of at most 64 nominations with their margins, none of which was checked yet
+pub record Beside (n0 stepDown stepUp : List ℤ) : Type 0 where
+  pub few : length n0 ≤ mostUnits
+  pub downs : length stepDown ≡ length n0
+  pub ups : length stepUp ≡ length n0
+
+-- how many of the checks of a unit's nomination and margins fail; and whether none does of any unit
+unfoldable pub faultsOf : ℤ → Margins → ℕ
+faultsOf n0 m =
+    bit (not (inRange n0))
+    + bit (not (inRange (m .«step_down»)))
+    + bit (not (inRange (m .«step_up»)))
+    + bit (not (leZ (m .«step_down») (m .«step_up»)))
+
+unfoldable pub amountsPass : List ℤ → List ℤ → List ℤ → Bool
+amountsPass n0 stepDown stepUp = eqb (sumTo (length n0) λ i. faultsOf (at n0 i) (marginsAt stepDown stepUp i)) 0

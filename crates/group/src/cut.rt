@@ -112,18 +112,6 @@ fn take_off(d: Direction, n1: &[i32], losses: &[u32], n2: &mut [i32])
     }
 }
 
-// Every unit as it is, where there is no excess.
-fn leave(n1: &[i32], n2: &mut [i32])
-    requires { ⌜ length (now n2) ≡ length (now n1) ⌝ }
-    ensures { λ _. ⌜ now (n2 .exit) ≡ now (n1 .entry) ⌝ }
-{
-    let mut i = 0;
-    while i < n1.len() {
-        n2[i] = n1[i];
-        i += 1;
-    }
-}
-
 // Step 2 of every unit, where there is an excess e of S1.
 fn cut_off(e: i32, n1: &[i32], class: &[u8], n2: &mut [i32])
     requires { ⌜ Bearable e (now n1) (now class) × (length (now n2) ≡ length (now n1)) ⌝ }
@@ -135,14 +123,12 @@ fn cut_off(e: i32, n1: &[i32], class: &[u8], n2: &mut [i32])
     take_off(direction(e), n1, &losses[..n], n2);
 }
 
-// Step 2 of every unit, for the excess e of S1; without one no column is made.
+// Step 2 of every unit, for the excess e of S1, in a column that holds n1; without an excess n1 is what stays.
 pub fn step2_all(e: i32, n1: &[i32], class: &[u8], n2: &mut [i32])
-    requires { ⌜ Bearable e (now n1) (now class) × (length (now n2) ≡ length (now n1)) ⌝ }
+    requires { ⌜ Bearable e (now n1) (now class) × (now n2 ≡ now n1) ⌝ }
     ensures { λ _. ⌜ now (n2 .exit) ≡ step2All e (now (n1 .entry)) (now (class .entry)) ⌝ }
 {
-    if e == 0 {
-        leave(n1, n2);
-        return;
+    if e != 0 {
+        cut_off(e, n1, class, n2);
     }
-    cut_off(e, n1, class, n2);
 }

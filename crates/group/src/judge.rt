@@ -39,10 +39,12 @@ pub enum Judgement {
     Refused(Refusal),
 }
 
-// Step 1 of every unit, and S1.
-fn step1_all(n0: &[i32], step_down: &[i32], step_up: &[i32], n1: &mut [i32]) -> i32
-    requires { ⌜ Aligned (now n0) (now «step_down») (now «step_up») (now n1) ⌝ }
-    ensures { λ r. ⌜ (r ≡ sumZ (step1All (now (n0 .entry)) (now («step_down» .entry)) (now («step_up» .entry)))) × (now (n1 .exit) ≡ step1All (now (n0 .entry)) (now («step_down» .entry)) (now («step_up» .entry))) ⌝ }
+// Step 1 of every unit, and S1. Until step 2 cuts, n2 is n1.
+fn step1_all(n0: &[i32], step_down: &[i32], step_up: &[i32], n1: &mut [i32], n2: &mut [i32]) -> i32
+    requires { ⌜ Aligned (now n0) (now «step_down») (now «step_up») (now n1) × (length (now n2) ≡ length (now n0)) ⌝ }
+    ensures { λ r. ⌜ (r ≡ sumZ (step1All (now (n0 .entry)) (now («step_down» .entry)) (now («step_up» .entry))))
+        × (now (n1 .exit) ≡ step1All (now (n0 .entry)) (now («step_down» .entry)) (now («step_up» .entry)))
+        × (now (n2 .exit) ≡ step1All (now (n0 .entry)) (now («step_down» .entry)) (now («step_up» .entry))) ⌝ }
 {
     let mut s1 = 0;
     let mut i = 0;
@@ -53,6 +55,7 @@ fn step1_all(n0: &[i32], step_down: &[i32], step_up: &[i32], n1: &mut [i32]) -> 
         };
         let first = step1(n0[i], m);
         n1[i] = first;
+        n2[i] = first;
         s1 += first;
         i += 1;
     }
@@ -80,16 +83,26 @@ pub fn cut_all(
     ensures { λ r. ⌜ CutOff (p .0) (now (n0 .entry)) (now («step_down» .entry)) (now («step_up» .entry)) (now (class .entry)) r (now (n1 .exit)) (now (n2 .exit)) ⌝ }
 {
     let band = Band::of(p);
-    let s1 = step1_all(n0, step_down, step_up, n1);
+    let s1 = step1_all(n0, step_down, step_up, n1, n2);
     let e = band.excess(s1);
     step2_all(e, n1, class, n2);
     Cut { band, s1, e }
 }
 
-// Step 3 of every unit, and S3.
-pub fn step3_all(n2: &[i32], step_down: &[i32], step_up: &[i32], n3: &mut [i32]) -> i32
-    requires { ⌜ Aligned (now n2) (now «step_down») (now «step_up») (now n3) ⌝ }
-    ensures { λ r. ⌜ (r ≡ sumZ (step3All (now (n2 .entry)) (now («step_down» .entry)) (now («step_up» .entry)))) × (now (n3 .exit) ≡ step3All (now (n2 .entry)) (now («step_down» .entry)) (now («step_up» .entry))) ⌝ }
+// Step 3 of every unit, and S3; and its reason: the column of reasons tells before by 1 which nominations are implicit.
+pub fn step3_all(
+    n0: &[i32],
+    n1: &[i32],
+    n2: &[i32],
+    step_down: &[i32],
+    step_up: &[i32],
+    n3: &mut [i32],
+    why: &mut [u8],
+) -> i32
+    requires { ⌜ Aligned (now n2) (now «step_down») (now «step_up») (now n3) × Explained (now why) (now n0) (now n1) (now n2) (now «step_down») (now «step_up») ⌝ }
+    ensures { λ r. ⌜ (r ≡ sumZ (step3All (now (n2 .entry)) (now («step_down» .entry)) (now («step_up» .entry))))
+        × (now (n3 .exit) ≡ step3All (now (n2 .entry)) (now («step_down» .entry)) (now («step_up» .entry)))
+        × (now (why .exit) ≡ reasonsAll (now (why .entry)) (now (n0 .entry)) (now (n1 .entry)) (now (n2 .entry)) (now (n3 .exit)) (now («step_down» .entry)) (now («step_up» .entry))) ⌝ }
 {
     let mut s3 = 0;
     let mut i = 0;
@@ -101,33 +114,10 @@ pub fn step3_all(n2: &[i32], step_down: &[i32], step_up: &[i32], n3: &mut [i32])
         let third = step3(n2[i], m);
         n3[i] = third;
         s3 += third;
+        why[i] = reason(why[i], n0[i], n1[i], n2[i], third, m);
         i += 1;
     }
     s3
-}
-
-// The reason of every unit; the column tells before by 1 which nominations are implicit.
-pub fn reasons_all(
-    n0: &[i32],
-    n1: &[i32],
-    n2: &[i32],
-    n3: &[i32],
-    step_down: &[i32],
-    step_up: &[i32],
-    why: &mut [u8],
-)
-    requires { ⌜ Explained (now why) (now n0) (now n1) (now n2) (now n3) (now «step_down») (now «step_up») ⌝ }
-    ensures { λ _. ⌜ now (why .exit) ≡ reasonsAll (now (why .entry)) (now (n0 .entry)) (now (n1 .entry)) (now (n2 .entry)) (now (n3 .entry)) (now («step_down» .entry)) (now («step_up» .entry)) ⌝ }
-{
-    let mut i = 0;
-    while i < n0.len() {
-        let m = Margins {
-            step_down: step_down[i],
-            step_up: step_up[i],
-        };
-        why[i] = reason(why[i], n0[i], n1[i], n2[i], n3[i], m);
-        i += 1;
-    }
 }
 
 // Verdict and balance beside the sums. Step 2 takes what the excess is, so S2 is the rest of S1.
@@ -146,7 +136,7 @@ pub fn summed(p: Position, cut: Cut, s3: i32) -> Sums
     }
 }
 
-// The three steps of a group of position p that is not refused.
+// The three steps of a group of position p that is not refused; its reasons are not asked for.
 fn judged(
     p: Position,
     n0: &[i32],
@@ -160,8 +150,10 @@ fn judged(
     requires { ⌜ Judged (p .0) (now n0) (now «step_down») (now «step_up») (now class) (now n1) (now n2) × (length (now n3) ≡ length (now n0)) ⌝ }
     ensures { λ r. ⌜ Written (p .0) (now (n0 .entry)) (now («step_down» .entry)) (now («step_up» .entry)) (now (class .entry)) r (now (n1 .exit)) (now (n2 .exit)) (now (n3 .exit)) ⌝ }
 {
+    let n = n0.len();
+    let mut why = [0u8; 64];
     let cut = cut_all(p, n0, step_down, step_up, class, n1, n2);
-    let s3 = step3_all(n2, step_down, step_up, n3);
+    let s3 = step3_all(n0, n1, n2, step_down, step_up, n3, &mut why[..n]);
     summed(p, cut, s3)
 }
 

@@ -4,6 +4,7 @@ pub mod Fields
 pub mod Heads
 pub mod Turns
 pub mod Accepted
+pub mod Marks
 pub mod Unique
 pub mod Read
 pub mod Tiled

@@ -4,3 +4,4 @@ pub mod Longest
 pub mod Reading
 pub mod Answers
 pub mod Decoding
+pub mod Inner

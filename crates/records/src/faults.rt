@@ -1,6 +1,7 @@
 // What a unit's values can have wrong; the first fault is told.
 ghost use mathlib.Core.Path.{_≡_};
 ghost use mathlib.Core.Bool.{_||_};
+ghost use Prim.Native.Nat.{_≤_};
 ghost use lib.Dec.{eqb};
 ghost use lib.IntN.{pos};
 ghost use Rattle.numbers.specs.Choice.{eqZ};
@@ -8,23 +9,23 @@ ghost use Rattle.terms.specs.Refusals.{check};
 ghost use Rattle.terms.specs.declared.refusal.Checked.the-variants.{Fine};
 ghost use Rattle.terms.specs.declared.refusal.Fault.the-variants.{NotNominated};
 ghost use Rattle.records.specs.Reading.{markFaults, valueFaults, unitFaults};
+ghost use Rattle.records.specs.Inner.{marksPass};
 use crate::age::is_aged;
 use crate::unit::UnitRecord;
 use terms::check::amounts;
 use terms::check::class;
 use terms::check::flag;
+use terms::check::position;
 use terms::quantity::Nomination;
 use terms::refusal::Checked;
 use terms::refusal::Fault;
 
-// N is 0 when not nominated.
+// N is 0 when not nominated. One product in place of two tests: which units are nominated cannot be guessed, and a wrong guess costs more than the rest of the check.
 fn nomination(nominated: u8, n: Nomination) -> Checked
+    requires { ⌜ nominated ≤ 1 ⌝ }
     ensures { λ r. ⌜ r ≡ check (eqb nominated 1 || eqZ (n .0) (pos 0)) NotNominated Fine ⌝ }
 {
-    if nominated == 1 {
-        return Checked::Fine;
-    }
-    if n.0 == 0 {
+    if n.0 == n.0 * (nominated as i32) {
         return Checked::Fine;
     }
     Checked::Faulty(Fault::NotNominated)
@@ -72,4 +73,17 @@ pub fn unit_faults(u: UnitRecord, floor: u32, run: u32, limit: u16) -> Checked
         return Checked::Fine;
     }
     Checked::Faulty(Fault::Age)
+}
+
+// Whether a unit passes in all but the range of N and its margins, which are asked of all units at once.
+pub fn marks_pass(u: UnitRecord, floor: u32, run: u32, limit: u16) -> bool
+    ensures { λ r. ⌜ r ≡ marksPass u floor run limit ⌝ }
+{
+    let Checked::Fine = marks(u, floor) else {
+        return false;
+    };
+    let Checked::Fine = position(u.pc.0) else {
+        return false;
+    };
+    is_aged(run, u.made, limit)
 }

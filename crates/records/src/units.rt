@@ -1,13 +1,11 @@
 // The units of a block, read one after another.
 ghost use mathlib.Core.Path.{_≡_};
-ghost use mathlib.Core.Bool.{_&&_};
 ghost use Prim.Native.Nat.{_+_, _≤_};
-ghost use lib.Dec.{eqb, leb};
 ghost use lib.ListN.{length};
-ghost use Rattle.numbers.specs.Bytes.{byteAt};
 ghost use Rattle.terms.specs.Refusals.{answer};
 ghost use Rattle.records.specs.Answers.{unitReply, unitRefusal};
-ghost use Rattle.records.specs.Layouts.{unitKind, unitLength};
+ghost use Rattle.records.specs.Layouts.{unitLength};
+ghost use Rattle.records.specs.Inner.{isWhole};
 ghost use Rattle.records.specs.Reading.{unitHeadOf, unitFieldsOf, unitOf, unitsOf};
 use crate::faults::unit_faults;
 use crate::head::head;
@@ -35,8 +33,8 @@ impl UnitAnswer {
 }
 
 // Whether a unit record begins at a place, and lies there whole.
-fn is_whole(s: &[u8], at: usize) -> bool
-    ensures { λ r. ⌜ r ≡ (leb (at + unitLength) (length (now (s .entry))) && eqb (byteAt (now (s .entry)) at) unitKind) ⌝ }
+pub fn is_whole(s: &[u8], at: usize) -> bool
+    ensures { λ r. ⌜ r ≡ isWhole (now (s .entry)) at ⌝ }
 {
     let n = s.len();
     if n < UnitRecord::LEN {

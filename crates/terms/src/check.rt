@@ -40,7 +40,7 @@ fn nomination(n: i32, fault: Fault) -> Checked
 }
 
 // A position in its range.
-fn position(pc: i32) -> Checked
+pub fn position(pc: i32) -> Checked
     ensures { λ r. ⌜ r ≡ check (inRange pc) Pc Fine ⌝ }
 {
     if pc < -Position::LIMIT {

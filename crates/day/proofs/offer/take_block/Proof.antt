@@ -1,28 +1,23 @@
--- `take_block` meets its contract, answer by answer: the check's refusal, 12, and the result of a block that passed.
-use Prim.Native.Nat.{_≤_}
+-- `take_block` meets its contract, answer by answer: the group record's refusal, the units' or 12, and the result of a block that passed.
 use mathlib.Core.Path.{_≡_, sym, ap, _∙_}
-use mathlib.Core.Bool.{true, false}
-use native.Mathlib.Omega.{arith}
-use borrow.Author.Needs.{needs}
-use borrow.Author.Tests.{lt-leb, le-leb}
 use denote.Ref.{now}
-use lib.ListN.{length}
 use Rattle.terms.specs.Reply.{is, need, next}
-use Rattle.writers.specs.Results.{resultLength}
-use Rattle.day.specs.declared.check.Block.{Block}
-use Rattle.day.specs.Blocks.{blockKey, blockCount}
-use Rattle.day.specs.Checking.{blockReply, blockFieldsOf}
+use Rattle.records.specs.Answers.{groupReply}
+use Rattle.day.specs.Checking.{blockFieldsOf}
 use Rattle.day.specs.Offers.{blockTaken}
-use Rattle.day.proofs.Read.{read, passed}
+use Rattle.day.specs.Inner.{unitsTaken, blockAfter}
+use Rattle.day.proofs.Read.{group-passed}
+use Rattle.day.proofs.Telling.{took-long, block-then}
 use Rattle.day.proofs.Taking.{refuses-room, takes-room, result-length}
-use Rattle.day.proofs.offer.take_block.Tie as tie
+use borrow.Author.Needs.{needs}
 use Rattle.day.proofs.offer.take_block.Statement.{statement}
+use Rattle.day.proofs.offer.take_block.Tie as tie
 
-block-fields-requires : tie.Need-block-fields-requires
-block-fields-requires c κs = search needs
+group-fields-requires : tie.Need-group-fields-requires
+group-fields-requires c κs = search needs
 
-enum-known-b : tie.Need-enum-known-b
-enum-known-b c = search needs
+enum-known-g : tie.Need-enum-known-g
+enum-known-g c = search needs
 
 enum-told : tie.Need-enum-told
 enum-told c = search needs
@@ -31,70 +26,85 @@ refusal-requires : tie.Need-refusal-requires
 refusal-requires c κs = search needs
 
 returns : tie.Need-returns
-unfolding blockTaken next
+unfolding blockTaken blockFieldsOf next
 returns c =
-    let block-fields = c .before .before .before in
-    refuses-room _ _ _ _ (rw (c .refusal .ensures, ← (block-fields .block-fields .ensures), c .before .enum-told .given .1))
+    let group-fields = c .before .before .before in
+    refuses-room _ _ _ _ (rw (c .refusal .ensures, ← (group-fields .group-fields .ensures), c .before .enum-told .given .1))
 
-returns-2 : tie.Need-returns-2
-unfolding blockTaken next need
-returns-2 c =
-    let known = c .before .before .before in
-    let e = sym (known .before .before .block-fields .ensures) ∙ ap blockReply (known .b .given .1) in
-    refuses-room _ _ _ _ (rw (e, lt-leb (known .b .given .0 .0 .written) _ (c .if1 .taken)))
-
-cast-write-result : tie.Need-cast-write-result
-cast-write-result c = search needs
-
-write-result-requires : tie.Need-write-result-requires
-write-result-requires c κs =
-    let test = c .before .before in
-    let known = test .before .before .before in
-    let start = known .before .before .before .before .before in
+take-units-requires : tie.Need-take-units-requires
+take-units-requires c κs =
+    let g = c .before .before in
+    let start = g .before .before .before .before .before .before in
     let x = start .args in
-    let block = known .b .given .0 .0 in
-    let e : blockFieldsOf (x .day) (now (x .s)) ≡ is block = sym (known .before .before .block-fields .ensures) ∙ ap blockReply (known .b .given .1) in
-    let v = read (x .day) (now (x .s)) (start .pre .0) e .value in
-    let n : block .count ≡ blockCount (now (x .s)) = ap (λ (b : Block). b .count) v in
-    let w : block .written ≡ resultLength (block .count) = rw v in
-    (passed (x .day) (now (x .s)) (start .pre .0) e, (n, omega (arith, w, test .if1 .left)))
+    let e = sym (g .before .before .group-fields .ensures) ∙ ap groupReply (g .g .given .1) in
+    let p = group-passed (now (x .s)) (x .day .«record») (x .day .last) e in
+    (record { long = start .pre .0; few = p .most }, p .value)
 
-counted-requires : tie.Need-counted-requires
-counted-requires c κs =
-    let write-result-arg = c .before .before .before .before in
-    let b = write-result-arg .before .before .before .before .before in
-    let start = b .before .before .before .before .before in
-    start .pre .1
+enum-known-b : tie.Need-enum-known-b
+enum-known-b c = search needs
+
+enum-told-2 : tie.Need-enum-told-2
+enum-told-2 c = search needs
+
+refusal-requires-2 : tie.Need-refusal-requires-2
+refusal-requires-2 c κs = search needs
 
 same-length : tie.Need-same-length
 same-length c = search needs
 
-returns-3 : tie.Need-returns-3
-unfolding blockTaken next need
-returns-3 c =
-    let wrote = c .before .before .before .before in
-    let test = wrote .before .before .before in
-    let known = test .before .before .before in
-    let start = known .before .before .before .before .before in
+returns-2 : tie.Need-returns-2
+unfolding next blockAfter
+returns-2 c =
+    let told = c .before in
+    let took = told .before .before .before .before in
+    let g = took .before .before .before in
+    let start = g .before .before .before .before .before .before in
     let x = start .args in
-    let block = known .b .given .0 .0 in
-    let e : blockFieldsOf (x .day) (now (x .s)) ≡ is block = sym (known .before .before .block-fields .ensures) ∙ ap blockReply (known .b .given .1) in
-    let v = read (x .day) (now (x .s)) (start .pre .0) e .value in
-    let t = le-leb (block .written) (length (now (x .room))) (test .if1 .left) in
-    takes-room _ _ _ _ (rw (e, t, c .counted .ensures)) (result-length (now (x .s)) _ _ ∙ rw v) (wrote .write-result .ensures)
+    let e = sym (g .before .before .group-fields .ensures) ∙ ap groupReply (g .g .given .1) in
+    let t = took .take-units .ensures in
+    let f = told .enum-told2 .given .1 in
+    let right = block-then (x .day) (now (x .s)) _ (now (x .room)) e in
+    let no = rw f at (t .replied) in
+    rw (t .room, ← no) (refuses-room _ _ _ _ (right ∙ rw (← no, c .refusal2 .ensures, f)))
+
+counted-requires : tie.Need-counted-requires
+counted-requires c κs = search needs
+
+same-length-2 : tie.Need-same-length-2
+same-length-2 c = search needs
+
+returns-3 : tie.Need-returns-3
+unfolding next blockAfter
+returns-3 c =
+    let known = c .before .before .before in
+    let took = known .before .before .before .before in
+    let g = took .before .before .before in
+    let start = g .before .before .before .before .before .before in
+    let x = start .args in
+    let e = sym (g .before .before .group-fields .ensures) ∙ ap groupReply (g .g .given .1) in
+    let t = took .take-units .ensures in
+    let right = block-then (x .day) (now (x .s)) _ (now (x .room)) e in
+    let yes = rw (known .b .given .1) at (t .replied) in
+    let wrote = rw (← yes) at (t .room) in
+    let p = group-passed (now (x .s)) (x .day .«record») (x .day .last) e in
+    let l = took-long (now (x .s)) _ (x .day .«record» .run) (x .day .«record» .«margin_limit») (now (x .room)) yes (p .value) in
+    takes-room _ _ _ _ (right ∙ rw (← yes, c .counted .ensures)) (result-length (now (x .s)) _ _ ∙ sym l) wrote
 
 pub take-block-spec : {M : Type 1} → statement M
 take-block-spec =
     tie.close
     (tie.spec
-    block-fields-requires
-    enum-known-b
+    group-fields-requires
+    enum-known-g
     enum-told
     refusal-requires
     returns
-    returns-2
-    cast-write-result
-    write-result-requires
-    counted-requires
+    take-units-requires
+    enum-known-b
+    enum-told-2
+    refusal-requires-2
     same-length
+    returns-2
+    counted-requires
+    same-length-2
     returns-3)

@@ -10,38 +10,34 @@ use Rattle.day.proofs.result.write_third.Tie as tie
 
 step3-all-requires : tie.Need-step3-all-requires
 step3-all-requires c κs =
-    let start = c .before .before .before .before in
-    aligned (start .pre .0) (start .pre .1)
+    let start = c .before .before .before .before .before in
+    (aligned (start .pre .0) (start .pre .1), explained (start .pre .0))
 
-reasons-all-requires : tie.Need-reasons-all-requires
-reasons-all-requires c κs =
-    let third = c .before .before .before in
-    let start = third .before .before .before .before .before in
-    explained (start .pre .0) (third .step3-all .ensures .0) (third .step3-all .ensures .1)
+-- what stood before step 3
+abbrev entry : tie.After-step3-all → tie.Start
+entry c = c .before .before .before .before .before .before
 
 lay-unit-results-requires : tie.Need-lay-unit-results-requires
 lay-unit-results-requires c κs =
-    let told = c .before .before .before .before .before in
-    let third = told .before .before .before .before in
-    let start = third .before .before .before .before .before in
-    laying (start .pre .0) (third .step3-all .ensures .0) (third .step3-all .ensures .1) (told .reasons-all .ensures)
+    let why = c .before .before .before .before in
+    let third = why .before .before in
+    let e = third .step3-all .ensures in
+    laying (entry third .pre .0) (e .0) (e .1) (e .2)
 
 summed-requires : tie.Need-summed-requires
 summed-requires c κs =
-    let lay-unit-results = c .before .before .before in
-    let why = lay-unit-results .before .before .before .before .before in
-    let third = why .before .before .before .before .before in
-    let start = third .before .before .before .before .before in
+    let laid = c .before .before .before in
+    let why = laid .before .before .before .before .before in
+    let third = why .before .before in
+    let e = third .step3-all .ensures in
     let s3 : toZ w32 (ofZ w32 (third .step3-all .result)) ≡ third .step3-all .result = search needs in
-    summable (start .pre .0) (s3 ∙ third .step3-all .ensures .0) (third .step3-all .ensures .1)
+    summable (entry third .pre .0) (s3 ∙ e .0) (e .1)
 
 lay-group-result-requires : tie.Need-lay-group-result-requires
 lay-group-result-requires c κs =
     let laid = c .before .before .before .before in
     let why = laid .before .before .before .before .before in
-    let step3-all = why .before .before .before .before .before in
-    let start = step3-all .before .before .before .before .before in
-    let w = start .pre .0 in
+    let w = entry (why .before .before) .pre .0 in
     (w .passed .long, omega (arith, laid .lay-unit-results .kept, w .enough))
 
 same-length : tie.Need-same-length
@@ -59,18 +55,16 @@ returns c =
     let sums = group .before in
     let laid = sums .before .before .before .before in
     let why = laid .before .before .before .before .before in
-    let told = why .before in
-    let third = told .before .before .before .before in
-    let start = third .before .before .before .before .before in
+    let third = why .before .before in
+    let e = third .step3-all .ensures in
     let s3 : toZ w32 (ofZ w32 (third .step3-all .result)) ≡ third .step3-all .result = search needs in
-    written (start .pre .0) (s3 ∙ third .step3-all .ensures .0) (third .step3-all .ensures .1) (told .reasons-all .ensures) (sums .summed .ensures) (laid .lay-unit-results .ensures) (group .lay-group-result .ensures)
+    written (entry third .pre .0) (s3 ∙ e .0) (e .1) (e .2) (sums .summed .ensures) (laid .lay-unit-results .ensures) (group .lay-group-result .ensures)
 
 pub write-third-spec : {M : Type 1} → statement M
 write-third-spec =
     tie.close
     (tie.spec
     step3-all-requires
-    reasons-all-requires
     lay-unit-results-requires
     summed-requires
     lay-group-result-requires

@@ -1,4 +1,4 @@
--- `cut_all` meets its contract: step 2 has the excess of the sum of what step 1 leaves.
+-- `cut_all` meets its contract: step 2 has the excess of the sum of what step 1 leaves, and a column that holds it.
 use mathlib.Core.Path.{_≡_, sym, ap, ap₂, _∙_}
 use borrow.Author.Needs.{needs}
 use denote.Ref.{now}
@@ -10,7 +10,7 @@ use Rattle.numbers.specs.Sum.{sumZ}
 use Rattle.group.specs.Steps.{bandOf, excessOf}
 use Rattle.group.specs.Group.{step1All, step2All}
 use Rattle.group.proofs.Bands.{low-within, high-within}
-use Rattle.group.proofs.Judging.{n1-length, n1-bearable, s1-within}
+use Rattle.group.proofs.Judging.{n1-bearable, s1-within}
 use Rattle.group.proofs.judge.cut_all.Tie as tie
 use Rattle.group.proofs.judge.cut_all.Statement.{statement}
 
@@ -21,32 +21,35 @@ step1-all-requires : tie.Need-step1-all-requires
 step1-all-requires c κs = search needs
 
 -- S1 and its excess as the machine reads them back
-s1-is : (c : tie.After-n1) → let first = c .before in let a = first .before .before .before .before .args in
-    toZ w32 (ofZ w32 (first .step1-all .result)) ≡ sumZ (step1All (now (a .n0)) (now (a .step-down)) (now (a .step-up)))
+s1-is : (c : tie.After-step1-all) → let a = c .before .before .before .before .before .args in
+    toZ w32 (ofZ w32 (c .step1-all .result)) ≡ sumZ (step1All (now (a .n0)) (now (a .step-down)) (now (a .step-up)))
 s1-is c =
-    let f : SFits w32 (c .before .step1-all .result) = record { sfits = c .before .step1-all .ok } in
-    toZ-ofZ f ∙ c .before .step1-all .ensures .0
+    let f : SFits w32 (c .step1-all .result) = record { sfits = c .step1-all .ok } in
+    toZ-ofZ f ∙ c .step1-all .ensures .0
 
-e-is : (c : tie.After-excess) → let a = c .before .before .before .before .before .before .args in
+e-is : (c : tie.After-excess) → let a = c .before .before .before .before .before .before .before .before .args in
     toZ w32 (ofZ w32 (c .excess .result)) ≡ excessOf (bandOf (a .p .0)) (sumZ (step1All (now (a .n0)) (now (a .step-down)) (now (a .step-up))))
 e-is c =
-    let band = c .before .before .before .before in
+    let first = c .before .before .before in
+    let band = first .before .before .before in
     let f : SFits w32 (c .excess .result) = record { sfits = c .excess .ok } in
-    toZ-ofZ f ∙ c .excess .ensures ∙ ap₂ excessOf (band .of .ensures) (s1-is (c .before))
+    toZ-ofZ f ∙ c .excess .ensures ∙ ap₂ excessOf (band .of .ensures) (s1-is first)
 
 excess-requires : tie.Need-excess-requires
 excess-requires c κs =
-    let band = c .before .before .before in
+    let first = c .before .before in
+    let band = first .before .before .before in
     let s = band .before .before in
     let p = s .args .p .0 in
-    rw (band .of .ensures, s1-is c) (low-within p 64000000 (s .pre .position-small), (high-within p 64000000 (s .pre .position-small), s1-within (s .pre)))
+    rw (band .of .ensures, s1-is first) (low-within p 64000000 (s .pre .position-small), (high-within p 64000000 (s .pre .position-small), s1-within (s .pre)))
 
 step2-all-requires : tie.Need-step2-all-requires
 step2-all-requires c κs =
     let beyond = c .before .before in
-    let first = beyond .before .before in
-    let h = first .before .before .before .before .pre in
-    rw (e-is beyond, first .step1-all .ensures .1) (n1-bearable h, h .seconds ∙ sym (n1-length h))
+    let first = beyond .before .before .before in
+    let h = first .before .before .before .before .before .pre in
+    let left = first .step1-all .ensures in
+    (rw (e-is beyond, left .1) (n1-bearable h), left .2 ∙ sym (left .1))
 
 same-length : tie.Need-same-length
 same-length c = search needs
@@ -58,17 +61,17 @@ returns : tie.Need-returns
 returns c =
     let cut = c .before in
     let beyond = cut .before .before .before in
-    let first = beyond .before .before in
-    let band = first .before .before in
-    let class = now (band .before .before .args .class) in
+    let first = beyond .before .before .before in
+    let band = first .before .before .before in
+    let a = band .before .before .args in
     let x1 = first .step1-all .ensures .1 in
     let back = ap sumZ (sym x1) in
-    let e = e-is beyond ∙ ap (excessOf (bandOf (band .before .before .args .p .0))) back in
+    let e = e-is beyond ∙ ap (excessOf (bandOf (a .p .0))) back in
     record {
       clamped = x1;
-      left = cut .step2-all .ensures ∙ ap (λ (z : ℤ). step2All z (first .step1-all .last .1 .1 .1 .0) class) e;
+      left = cut .step2-all .ensures ∙ ap (λ (z : ℤ). step2All z (first .step1-all .last .1 .1 .1 .0) (now (a .class))) e;
       band = band .of .ensures;
-      sum = s1-is (beyond .before) ∙ back;
+      sum = s1-is first ∙ back;
       excess = e;
     }
 

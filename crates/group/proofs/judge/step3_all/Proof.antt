@@ -1,4 +1,4 @@
--- `step3_all` meets its contract: it fills the column of step 3 and sums it.
+-- `step3_all` meets its contract: it fills the column of step 3 and sums it, and fills the column of reasons, of which it reads only the place that it fills next.
 use Prim.Native.Nat.{_-_}
 use mathlib.Core.Path.{_≡_}
 use native.Mathlib.Omega.{arith}
@@ -10,25 +10,27 @@ use mir.Val.{SFits, toZ, ofZ}
 use mir.Facts.{toZ-ofZ}
 use Rattle.numbers.specs.Column.{at}
 use Rattle.group.specs.Group.{step3All}
-use Rattle.group.proofs.Running.{Run, run-start, run-adds, run-turn, run-end}
+use Rattle.group.proofs.Running.{Filled, filled-start, filled-next, filled-turn, filled-end, Run, run-start, run-adds, run-turn, run-end}
 use Rattle.group.proofs.Ranges.{thirdAt, third-small}
+use Rattle.group.proofs.Explaining.{reasonAt, reasons-end}
 use Rattle.group.proofs.judge.step3_all.Statement.{statement}
 use Rattle.group.proofs.judge.step3_all.Tie as tie
 
 abbrev Inv-loop : tie.InvT-loop
-Inv-loop n2 step-down step-up n3₀ s3₀ i₀ n3 s3 i = Run (thirdAt n2 step-down step-up) (length n2) n3₀ n3 s3 i
+Inv-loop n0 n1 n2 step-down step-up n3₀ why₀ s3₀ i₀ n3 why s3 i =
+    Run (thirdAt n2 step-down step-up) (length n2) n3₀ n3 s3 i × Filled (reasonAt why₀ n0 n1 n2 step-down step-up) (length n2) why₀ why i
 
 abbrev μ-loop : tie.MeasureT-loop
-μ-loop n2 step-down step-up n3₀ s3₀ i₀ n3 s3 i = length n2 - i
+μ-loop n0 n1 n2 step-down step-up n3₀ why₀ s3₀ i₀ n3 why s3 i = length n2 - i
 
 loop-holds : tie.Need-loop-holds Inv-loop μ-loop
-loop-holds c = run-start _ _ _
+loop-holds c = (run-start _ _ _, filled-start _ _ _)
 
-mul-t9 : tie.Need-mul-t9 Inv-loop μ-loop
-mul-t9 c = omega arith
+mul-reason : tie.Need-mul-reason Inv-loop μ-loop
+mul-reason c = omega arith
 
-shared-slice-copy-out-t12 : tie.Need-shared-slice-copy-out-t12 Inv-loop μ-loop
-shared-slice-copy-out-t12 c = omega arith
+shared-slice-copy-out-reason : tie.Need-shared-slice-copy-out-reason Inv-loop μ-loop
+shared-slice-copy-out-reason c = omega arith
 
 mul-step3 : tie.Need-mul-step3 Inv-loop μ-loop
 mul-step3 c = omega arith
@@ -52,13 +54,13 @@ slice-set-from-third : tie.Need-slice-set-from-third Inv-loop μ-loop
 slice-set-from-third c = omega arith
 
 -- what is stored at a turn is step 3 of its unit
-third-is : (c : tie.After-step3 Inv-loop μ-loop) → let l = c .before .before .before .before .before in let a = l .before .args in
+third-is : (c : tie.After-step3 Inv-loop μ-loop) → let l = c .before .before .before .before .before in let a = l .before .before .args in
     toZ w32 (ofZ w32 (c .step3 .result)) ≡ thirdAt (now (a .n2)) (now (a .step-down)) (now (a .step-up)) (l .loop .i)
 third-is c =
     let last = c .before in
     let l = last .before .before .before .before in
-    let a = l .before .args in
-    let f : SFits w32 (at (now (a .step-down)) (l .loop .i)) = record { sfits = last .before .before .t12 .given } in
+    let a = l .before .before .args in
+    let f : SFits w32 (at (now (a .step-down)) (l .loop .i)) = record { sfits = last .before .before .reason-arg .given } in
     let g : SFits w32 (at (now (a .step-up)) (l .loop .i)) = record { sfits = last .before .step3-arg .given } in
     let h : SFits w32 (at (now (a .n2)) (l .loop .i)) = record { sfits = last .step3-arg2 .given } in
     let r : SFits w32 (c .step3 .result) = record { sfits = c .step3 .ok } in
@@ -68,8 +70,40 @@ add-s3 : tie.Need-add-s3 Inv-loop μ-loop
 add-s3 c =
     let test = c .before .before .before .before in
     let l = test .before in
-    let s = l .before in
-    run-adds (third-small (s .pre)) (s .pre .few) (l .loop .inv) (third-is c) (test .loop-test .taken)
+    let h = l .before .before .pre .0 in
+    run-adds (third-small h) (h .few) (l .loop .inv .0) (third-is c) (test .loop-test .taken)
+
+slice-read-reason : tie.Need-slice-read-reason Inv-loop μ-loop
+slice-read-reason c = omega arith
+
+mul-reason-2 : tie.Need-mul-reason-2 Inv-loop μ-loop
+mul-reason-2 c = omega arith
+
+shared-slice-copy-out-reason-2 : tie.Need-shared-slice-copy-out-reason-2 Inv-loop μ-loop
+shared-slice-copy-out-reason-2 c = omega arith
+
+mul-reason-3 : tie.Need-mul-reason-3 Inv-loop μ-loop
+mul-reason-3 c = omega arith
+
+shared-slice-copy-out-reason-3 : tie.Need-shared-slice-copy-out-reason-3 Inv-loop μ-loop
+shared-slice-copy-out-reason-3 c = omega arith
+
+mul-reason-4 : tie.Need-mul-reason-4 Inv-loop μ-loop
+mul-reason-4 c = omega arith
+
+shared-slice-copy-out-reason-4 : tie.Need-shared-slice-copy-out-reason-4 Inv-loop μ-loop
+shared-slice-copy-out-reason-4 c = omega arith
+
+reason-requires : tie.Need-reason-requires Inv-loop μ-loop
+reason-requires c κs =
+    let third = c .before .before .before .before in
+    let test = third .before .before .before .before in
+    let l = test .before in
+    let e = l .before .before .pre .1 in
+    rw (filled-next (l .loop .inv .1) (omega arith) 0 (test .loop-test .taken)) (e .told (l .loop .i))
+
+slice-write-why : tie.Need-slice-write-why Inv-loop μ-loop
+slice-write-why c = omega arith
 
 add-i : tie.Need-add-i Inv-loop μ-loop
 add-i c = omega arith
@@ -77,22 +111,53 @@ add-i c = omega arith
 loop-less : tie.Need-loop-less Inv-loop μ-loop
 loop-less c = omega arith
 
+-- and its reason is the one of its unit
+reason-is : (c : tie.After-reason Inv-loop μ-loop) → let l = c .before .before .before .before .before .before .before .before .before .before in let a = l .before .before .args in
+    c .reason .result ≡ reasonAt (now (a .why)) (now (a .n0)) (now (a .n1)) (now (a .n2)) (now (a .step-down)) (now (a .step-up)) (l .loop .i)
+reason-is c =
+    let n2-read = c .before in
+    let n1-read = n2-read .before in
+    let n0-read = n1-read .before in
+    let third = n0-read .before .before in
+    let up-read = third .before .before in
+    let down-read = up-read .before in
+    let test = down-read .before in
+    let l = test .before in
+    let s = l .before .before in
+    let a = s .args in
+    let i = l .loop .i in
+    let f0 : SFits w32 (at (now (a .n0)) i) = record { sfits = n0-read .reason-arg2 .given } in
+    let f1 : SFits w32 (at (now (a .n1)) i) = record { sfits = n1-read .reason-arg3 .given } in
+    let f2 : SFits w32 (at (now (a .n2)) i) = record { sfits = n2-read .reason-arg4 .given } in
+    let fd : SFits w32 (at (now (a .step-down)) i) = record { sfits = down-read .reason-arg .given } in
+    let fu : SFits w32 (at (now (a .step-up)) i) = record { sfits = up-read .step3-arg .given } in
+    let e = simp (third-is third, toZ-ofZ) at (c .reason .ensures) in
+    rw (filled-next (l .loop .inv .1) (omega arith) 0 (test .loop-test .taken)) at e
+
 loop-again : tie.Need-loop-again Inv-loop μ-loop
 loop-again c =
-    let test = c .before .before .before .before in
+    let third = c .before .before .before .before .before in
+    let test = third .before .before .before .before in
     let l = test .before in
-    let s = l .before in
-    run-turn (third-small (s .pre)) (s .pre .few) (l .loop .inv) (third-is c) (test .loop-test .taken) (s .pre .places)
+    let h = l .before .before .pre .0 in
+    let t = test .loop-test .taken in
+    (run-turn (third-small h) (h .few) (l .loop .inv .0) (third-is third) t (h .places), filled-turn (l .loop .inv .1) (omega arith) 0 (reason-is c) t)
 
 same-length : tie.Need-same-length Inv-loop μ-loop
 same-length c = omega arith
+
+same-length-2 : tie.Need-same-length-2 Inv-loop μ-loop
+same-length-2 c = omega arith
 
 returns : tie.Need-returns Inv-loop μ-loop
 unfolding step3All
 returns c =
     let l = c .before in
-    let s = l .before in
-    run-end (third-small (s .pre)) (s .pre .few) (l .loop .inv) (c .loop-test .left) (s .pre .places)
+    let s = l .before .before in
+    let h = s .pre .0 in
+    let t = c .loop-test .left in
+    let r = run-end (third-small h) (h .few) (l .loop .inv .0) t (h .places) in
+    (r .0, r .1, reasons-end (s .pre .1) (r .1) (filled-end (l .loop .inv .1) (omega arith) t))
 
 pub step3-all-spec : {M : Type 1} → statement M
 step3-all-spec =
@@ -101,8 +166,8 @@ step3-all-spec =
     Inv-loop
     μ-loop
     loop-holds
-    mul-t9
-    shared-slice-copy-out-t12
+    mul-reason
+    shared-slice-copy-out-reason
     mul-step3
     shared-slice-copy-out-step3
     mul-step3-2
@@ -111,8 +176,18 @@ step3-all-spec =
     mul-third
     slice-set-from-third
     add-s3
+    slice-read-reason
+    mul-reason-2
+    shared-slice-copy-out-reason-2
+    mul-reason-3
+    shared-slice-copy-out-reason-3
+    mul-reason-4
+    shared-slice-copy-out-reason-4
+    reason-requires
+    slice-write-why
     add-i
     loop-less
     loop-again
     same-length
+    same-length-2
     returns)

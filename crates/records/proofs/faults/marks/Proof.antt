@@ -1,7 +1,7 @@
 -- 6 and 7 in turn: each return by the tests that passed before it and the one that failed.
 use Rattle.records.proofs.Checks.{check-past, check-out}
 use mathlib.Core.Path.{sym, _∙_}
-use borrow.Author.Tests.{le-leb, lt-leb}
+use borrow.Author.Tests.{le-leb, lt-leb, leb-true}
 use Rattle.terms.proofs.Passing.{passes, fails}
 use Rattle.records.specs.Reading.{markFaults}
 use borrow.Author.Needs.{needs}
@@ -73,7 +73,7 @@ returns-4 c =
     check-past _ _ _ floor (check-past _ _ _ p1 (check-past _ _ _ p2 (check-out _ _ _ q)))
 
 nomination-requires : tie.Need-nomination-requires
-nomination-requires c κs = search needs
+nomination-requires c κs = leb-true _ 1 (passes _ _ _ (sym (c .before .before .flag2 .ensures) ∙ c .enum-told5 .given .1) .0)
 
 returns-5 : tie.Need-returns-5
 unfolding markFaults

@@ -1,0 +1,188 @@
+-- The block's refusal, 12, or the columns that were read through the steps, and what these leave written.
+use Prim.Native.Nat.{_≤_}
+use mathlib.Core.Path.{_≡_, refl, sym, ap, _∙_}
+use native.Mathlib.Omega.{arith}
+use borrow.Author.Tests.{lt-leb, le-leb}
+use denote.Ref.{now}
+use lib.ListN.{length}
+use Rattle.terms.specs.Reply.{is}
+use Rattle.writers.specs.Results.{resultLength}
+use Rattle.day.specs.Blocks.{blockCount}
+use Rattle.day.specs.Checking.{blockReply, blockUnitsOf}
+use Rattle.day.proofs.Passing.{may-cut, cutting}
+use Rattle.day.proofs.Telling.{taking-refused, taking-small, taking-done, taken-long}
+use borrow.Author.Needs.{needs}
+use Rattle.day.proofs.result.take_through.Statement.{statement}
+use Rattle.day.proofs.result.take_through.Tie as tie
+
+block-units-requires : tie.Need-block-units-requires
+block-units-requires c κs = search needs
+
+enum-known-b : tie.Need-enum-known-b
+enum-known-b c = search needs
+
+enum-told : tie.Need-enum-told
+enum-told c = search needs
+
+refusal-requires : tie.Need-refusal-requires
+refusal-requires c κs = search needs
+
+same-length : tie.Need-same-length
+same-length c = search needs
+
+same-length-2 : tie.Need-same-length-2
+same-length-2 c = search needs
+
+same-length-3 : tie.Need-same-length-3
+same-length-3 c = search needs
+
+same-length-4 : tie.Need-same-length-4
+same-length-4 c = search needs
+
+same-length-5 : tie.Need-same-length-5
+same-length-5 c = search needs
+
+returns : tie.Need-returns
+returns c =
+    let told = c .before in
+    let units = told .before .before .before .before .before .before .before .before .before in
+    taking-refused _ _ _ _ _ (rw (c .refusal .ensures, told .enum-told .given .1) (rw (told .enum-told .given .1) at (units .block-units .ensures .replied)))
+
+same-length-6 : tie.Need-same-length-6
+same-length-6 c = search needs
+
+same-length-7 : tie.Need-same-length-7
+same-length-7 c = search needs
+
+same-length-8 : tie.Need-same-length-8
+same-length-8 c = search needs
+
+same-length-9 : tie.Need-same-length-9
+same-length-9 c = search needs
+
+same-length-10 : tie.Need-same-length-10
+same-length-10 c = search needs
+
+returns-2 : tie.Need-returns-2
+returns-2 c =
+    let known = c .before .before .before in
+    let units = known .before .before .before .before .before .before .before .before .before in
+    let e = rw (known .b .given .1) at (units .block-units .ensures .replied) in
+    taking-small _ _ _ _ _ e refl (lt-leb (known .b .given .0 .0 .written) _ (c .if1 .taken))
+
+-- the room is long enough for the block's result
+enough : (c : tie.Else1) → let known = c .before .before .before in let start = known .before .before .before .before .before .before .before .before .before .before .before .before .before .before .before .before .before .before .before in resultLength (blockCount (now (start .args .s))) ≤ length (now (start .args .room))
+enough c =
+    let known = c .before .before .before in
+    let units = known .before .before .before .before .before .before .before .before .before in
+    let start = units .before .before .before .before .before .before .before .before .before .before in
+    let e = rw (known .b .given .1) at (units .block-units .ensures .replied) in
+    omega (arith, taken-long _ _ _ _ (now (start .args .room)) e (start .pre .0 .1), c .if1 .left)
+
+cut-all-requires : tie.Need-cut-all-requires
+cut-all-requires c κs =
+    let test = c .before .before .before .before .before .before .before in
+    let known = test .before .before .before in
+    let units = known .before .before .before .before .before .before .before .before .before in
+    let start = units .before .before .before .before .before .before .before .before .before .before in
+    let told = units .block-units .ensures in
+    let k = ap blockReply (known .b .given .1) in
+    may-cut (told .passed _ k) (told .decoded _ k) (start .pre .1 .1 .0) (start .pre .1 .1 .1)
+
+write-cut-requires : tie.Need-write-cut-requires
+write-cut-requires c κs =
+    let cut = c .before .before .before .before .before .before .before .before .before in
+    let test = cut .before .before .before .before .before .before .before .before in
+    let known = test .before .before .before in
+    let units = known .before .before .before .before .before .before .before .before .before in
+    let start = units .before .before .before .before .before .before .before .before .before .before in
+    let told = units .block-units .ensures in
+    let k = ap blockReply (known .b .given .1) in
+    cutting (told .passed _ k) (told .decoded _ k) (cut .cut-all .ensures) (enough test)
+
+same-length-11 : tie.Need-same-length-11
+same-length-11 c = search needs
+
+same-length-12 : tie.Need-same-length-12
+same-length-12 c =
+    let wrote = c .before .before .before .before in
+    let test = wrote .before .before .before .before .before .before .before .before .before .before .before .before .before .before .before .before .before .before in
+    let units = test .before .before .before .before .before .before .before .before .before .before .before .before in
+    units .block-units .kept .1 .1 .1 .1 .0
+
+same-length-13 : tie.Need-same-length-13
+same-length-13 c =
+    let wrote = c .before .before .before .before in
+    let test = wrote .before .before .before .before .before .before .before .before .before .before .before .before .before .before .before .before .before .before in
+    let units = test .before .before .before .before .before .before .before .before .before .before .before .before in
+    wrote .write-cut .kept .1 .1 .1 .1 .0 ∙ units .block-units .kept .1 .1 .1 .1 .1 .0
+
+same-length-14 : tie.Need-same-length-14
+same-length-14 c =
+    let wrote = c .before .before .before .before in
+    let test = wrote .before .before .before .before .before .before .before .before .before .before .before .before .before .before .before .before .before .before in
+    let units = test .before .before .before .before .before .before .before .before .before .before .before .before in
+    units .block-units .kept .1 .1 .1 .1 .1 .1 .0
+
+same-length-15 : tie.Need-same-length-15
+same-length-15 c = search needs
+
+same-length-16 : tie.Need-same-length-16
+same-length-16 c = search needs
+
+same-length-17 : tie.Need-same-length-17
+same-length-17 c =
+    let wrote = c .before .before .before .before in
+    let test = wrote .before .before .before .before .before .before .before .before .before .before .before .before .before .before .before .before .before .before in
+    let units = test .before .before .before .before .before .before .before .before .before .before .before .before in
+    units .block-units .kept .1 .1 .1 .1 .1 .1 .1 .0
+
+same-length-18 : tie.Need-same-length-18
+same-length-18 c =
+    let wrote = c .before .before .before .before in
+    let test = wrote .before .before .before .before .before .before .before .before .before .before .before .before .before .before .before .before .before .before in
+    let units = test .before .before .before .before .before .before .before .before .before .before .before .before in
+    units .block-units .kept .1 .1 .1 .1 .1 .1 .1 .1 .0
+
+returns-3 : tie.Need-returns-3
+returns-3 c =
+    let wrote = c .before .before .before .before in
+    let test = wrote .before .before .before .before .before .before .before .before .before .before .before .before .before .before .before .before .before .before in
+    let known = test .before .before .before in
+    let units = known .before .before .before .before .before .before .before .before .before in
+    let start = units .before .before .before .before .before .before .before .before .before .before in
+    let e = rw (known .b .given .1) at (units .block-units .ensures .replied) in
+    let t = le-leb (known .b .given .0 .0 .written) (length (now (start .args .room))) (test .if1 .left) in
+    taking-done _ _ _ _ _ e t (wrote .write-cut .ensures)
+
+pub take-through-spec : {M : Type 1} → statement M
+take-through-spec =
+    tie.close
+    (tie.spec
+    block-units-requires
+    enum-known-b
+    enum-told
+    refusal-requires
+    same-length
+    same-length-2
+    same-length-3
+    same-length-4
+    same-length-5
+    returns
+    same-length-6
+    same-length-7
+    same-length-8
+    same-length-9
+    same-length-10
+    returns-2
+    cut-all-requires
+    write-cut-requires
+    same-length-11
+    same-length-12
+    same-length-13
+    same-length-14
+    same-length-15
+    same-length-16
+    same-length-17
+    same-length-18
+    returns-3)

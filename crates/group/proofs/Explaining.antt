@@ -1,0 +1,37 @@
+-- The reasons that a loop writes beside step 3 are those of the column of step 3; and a lent column of zeros tells of no implicit nomination.
+use Prim.Native.Nat.{ℕ, zero, suc, _≤_}
+use mathlib.Core.Path.{_≡_, sym, ap, _∙_}
+use mathlib.Core.List.{List}
+use native.Mathlib.Omega.{arith}
+use lib.IntN.{ℤ, pos}
+use lib.ListN.{length, getD, take, replicate}
+use Rattle.numbers.specs.Column.{column, at}
+use Rattle.numbers.proofs.Columns.{column-at, column-ext}
+use Rattle.group.specs.Steps.{reasonOf}
+use Rattle.group.specs.Group.{marginsAt, step3All, reasonsAll}
+use Rattle.group.specs.Inner.{Explained}
+use Rattle.group.proofs.Ranges.{thirdAt}
+
+-- the reason of the unit of an index
+abbrev pub reasonAt : List ℕ → List ℤ → List ℤ → List ℤ → List ℤ → List ℤ → ℕ → ℕ
+reasonAt taken n0 n1 n2 stepDown stepUp i =
+    reasonOf (getD taken i 0) (at n0 i) (at n1 i) (at n2 i) (thirdAt n2 stepDown stepUp i) (marginsAt stepDown stepUp i)
+
+module _ {taken : List ℕ} {n0 n1 n2 stepDown stepUp : List ℤ} (h : Explained taken n0 n1 n2 stepDown stepUp) where
+  pub reasons-end : {n3 : List ℤ} {why : List ℕ} → n3 ≡ step3All n2 stepDown stepUp → why ≡ column (length n2) (reasonAt taken n0 n1 n2 stepDown stepUp)
+      → why ≡ reasonsAll taken n0 n1 n2 n3 stepDown stepUp
+  unfolding reasonsAll step3All
+  reasons-end {n3} {why} third e =
+      let f = reasonAt taken n0 n1 n2 stepDown stepUp in
+      e
+      ∙ ap (λ (n : ℕ). column n f) (h .seconds)
+      ∙ column-ext f
+      (λ i. reasonOf (getD taken i 0) (at n0 i) (at n1 i) (at n2 i) (at n3 i) (marginsAt stepDown stepUp i))
+      (length n0)
+      (λ i l. ap (λ (z : ℤ). reasonOf (getD taken i 0) (at n0 i) (at n1 i) (at n2 i) z (marginsAt stepDown stepUp i)) (sym (ap (λ (x : List ℤ). at x i) third ∙ column-at (thirdAt n2 stepDown stepUp) (length n2) i (pos 0) (omega arith))))
+
+pub untold : (n k i : ℕ) → getD (take n (replicate k 0)) i 0 ≤ 1
+untold zero k i = omega arith
+untold (suc n) zero i = omega arith
+untold (suc n) (suc k) zero = omega arith
+untold (suc n) (suc k) (suc i) = untold n k i

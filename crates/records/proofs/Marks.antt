@@ -1,0 +1,109 @@
+-- A unit that passes in all but N's range and its margins, and what is still to ask of it.
+use Prim.Native.Nat.{ℕ, _+_, _≤_}
+use mathlib.Core.Path.{_≡_, refl, sym, _∙_}
+use mathlib.Core.Bool.{Bool, true, false, _&&_, _||_}
+use mathlib.Core.List.{List}
+use native.Mathlib.Omega.{arith}
+use borrow.Author.Tests.{le-leb, eq-eqb}
+use lib.Dec.{eqb, leb}
+use lib.IntN.{ℤ, pos, negℤ}
+use lib.ListN.{length}
+use lib.Signed.{leZ}
+use Rattle.numbers.specs.Bytes.{byteAt}
+use Rattle.numbers.specs.Choice.{pick, eqZ}
+use Rattle.numbers.specs.Range.{Within}
+use Rattle.numbers.proofs.Choices.{and-both}
+use Rattle.numbers.proofs.Integers.{zarith}
+use Rattle.terms.specs.Reply.{is, next}
+use Rattle.terms.specs.Quantities.{implicit, consideredOf}
+use Rattle.terms.specs.Refusals.{check, passed}
+use Rattle.terms.specs.Checks.{inRange, marginChecks, amountChecks}
+use Rattle.terms.specs.declared.refusal.Checked.{Checked}
+use Rattle.terms.specs.declared.refusal.Checked.the-variants.{Fine, Faulty}
+use Rattle.terms.proofs.Replies.{next-is}
+use Rattle.terms.proofs.Passing.{passes}
+use Rattle.records.specs.declared.unit.UnitRecord.{UnitRecord}
+use Rattle.records.specs.Layouts.{unitKind, unitLength, unitAt, marginsOf}
+use Rattle.records.specs.Reading.{aged, also, headOf, markFaults, valueFaults, unitFaults, unitFieldsOf, unitOf}
+use Rattle.records.specs.Decoding.{unitN0}
+use Rattle.records.specs.Inner.{isWhole, isFine, marksPass}
+use Rattle.records.proofs.Checks.{also-fine}
+use Rattle.records.proofs.Accepted.{range-within, unit-is}
+use Rattle.records.proofs.Heads.{headed, whole-head}
+
+fine-is : (r : Checked) → isFine r ≡ true → r ≡ Fine
+unfolding isFine
+fine-is Fine e = refl
+fine-is (Faulty fault) e =
+    let z : _≡_ {A = ℕ} 0 1 = cc in
+    absurd (omega arith)
+
+-- what the marks say of a unit
+pub record Marked (u : UnitRecord) : Type 0 where
+  pub stated : eqb (u .nominated) 1 || eqZ (u .n .0) (pos 0) ≡ true
+  pub pc : Within 1000000 (u .pc .0)
+
+module _ (u : UnitRecord) (floor run limit : ℕ) where
+  parts : marksPass u floor run limit ≡ true → (markFaults u floor ≡ Fine) × ((inRange (u .pc .0) ≡ true) × (aged run (u .made) limit ≡ true))
+  unfolding marksPass
+  parts e =
+      let a = and-both (isFine (markFaults u floor)) (inRange (u .pc .0) && aged run (u .made) limit) e in
+      (fine-is _ (a .0), and-both (inRange (u .pc .0)) (aged run (u .made) limit) (a .1))
+
+  pub marked : marksPass u floor run limit ≡ true → Marked u
+  unfolding markFaults
+  marked e =
+      let p = parts e in
+      let number = passes _ _ _ (p .0) in
+      let class = passes _ _ _ (number .1) in
+      let coincide = passes _ _ _ (class .1) in
+      let nominated = passes _ _ _ (coincide .1) in
+      let stated = passes _ _ _ (nominated .1) in
+      record { stated = stated .0; pc = range-within _ (p .1 .0) }
+
+  -- a unit without a fault has these marks
+  pub marks-needed : unitFaults u floor run limit ≡ Fine → marksPass u floor run limit ≡ true
+  unfolding unitFaults valueFaults amountChecks marksPass isFine
+  marks-needed e =
+      let a = also-fine _ _ e in
+      let v = also-fine _ _ (a .0) in
+      let n = passes _ _ _ (v .1) in
+      let pc = passes _ _ _ (n .1) in
+      let age = passes _ _ _ (a .1) in
+      rw (v .0, pc .0, age .0)
+
+  -- N lies in its range where n0 does: it is n0, or 0
+  n-in-range : eqb (u .nominated) 1 || eqZ (u .n .0) (pos 0) ≡ true → inRange (unitN0 u) ≡ true → inRange (u .n .0) ≡ true
+  n-in-range = go (eqb (u .nominated) 1) (implicit (u .nominated) (u .coincide)) (u .n .0) (u .pc .0)
+    where
+      go : (t i : Bool) (n pc : ℤ) → t || eqZ n (pos 0) ≡ true → inRange (pick t n (pick i (negℤ pc) (pos 0))) ≡ true → inRange n ≡ true
+      go true i n pc e h = h
+      go false i n pc e h =
+          let b = and-both (leZ n (pos 0)) (leZ (pos 0) n) e in
+          let low = b .0 in
+          let high = b .1 in
+          let z : n ≡ pos 0 = omega zarith in
+          rw z
+
+  -- and with its quantities in their ranges it has none
+  pub marks-enough : marksPass u floor run limit ≡ true → inRange (unitN0 u) ≡ true → inRange (marginsOf u .«step_down») ≡ true → inRange (marginsOf u .«step_up») ≡ true
+      → leZ (marginsOf u .«step_down») (marginsOf u .«step_up») ≡ true → unitFaults u floor run limit ≡ Fine
+  unfolding unitFaults valueFaults amountChecks marginChecks also check
+  marks-enough e n0 down up ordered =
+      let p = parts e in
+      rw (p .0, n-in-range (marked e .stated) n0, p .1 .0, down, up, ordered, p .1 .1)
+
+-- a unit that lies whole at a place and has no fault is read; what was read lies whole
+module _ (s : List ℕ) (at floor run limit : ℕ) where
+  pub unit-read : isWhole s at ≡ true → unitFaults (unitAt s at) floor run limit ≡ Fine → unitOf s at floor run limit ≡ is (unitAt s at)
+  unfolding unitOf unitFieldsOf next passed
+  unit-read w e = rw (whole-head s at unitKind unitLength (omega arith) w, e)
+
+  pub read-whole : {u : UnitRecord} → unitOf s at floor run limit ≡ is u → isWhole s at ≡ true
+  unfolding unitOf
+  read-whole e =
+      let h = headed s at unitKind unitLength (next-is _ _ e .1 .0) in
+      rw (le-leb (at + unitLength) (length s) (h .long), eq-eqb (byteAt s at) unitKind (h .first))
+
+  pub read-marked : {u : UnitRecord} → unitOf s at floor run limit ≡ is u → marksPass (unitAt s at) floor run limit ≡ true
+  read-marked e = marks-needed _ floor run limit (unit-is s at floor run limit e .0)
