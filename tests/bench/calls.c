@@ -1,87 +1,33 @@
-/* Blocks to judge, and two calls that judge them: the library's and the second program's.
+/* Blocks to judge, and three programs that judge them: the C call, the second program and best.c.
  *
- *   calls count WHICH UNITS CUT TIMES    judges one block TIMES times (WHICH is call or second; CUT is 0 or 1)
- *   calls time UNITS CUT REPEATS         prints nanoseconds a block for both, REPEATS pairs of rounds in turn
- *   calls day BLOCKS                     writes a day of that many blocks, for the list
+ *   calls same SEEDS                         prints, by case, how many blocks were compared and how many differ
+ *   calls judge PROGRAM CASE UNITS ROUNDS    judges the blocks in so many rounds, for a count from outside
+ *   calls time CASE UNITS ROUNDS             prints nanoseconds a block of each program, a line for each round
+ *   calls block CASE UNITS                   writes a day record and one block
+ *   calls day BLOCKS                         writes a day of so many blocks of all cases and sizes, for the list
  *
- * A block has units of both classes in turn. Without cuts each unit sells what it nominates; with cuts what is sold is so
- * little that every unit of class 0 is cut to nothing and every unit of class 1 pro quota, with remainders that differ. */
+ * A round judges BLOCKS blocks of one case and size with other figures in each: one block again and again would let the
+ * processor learn every branch, and flatter code that branches on the figures. */
 #define _POSIX_C_SOURCE 200809L
 #include "../second/second.h"
-#include "flehwella.h"
+#include "cases.h"
 
 #include <stdio.h>
 #include <stdlib.h>
 #include <string.h>
 #include <time.h>
 
-enum { DAY = 9510, QUARTERS = 96, RUN = 13693800, MADE = RUN - 30 };
-
-static void put(uint8_t *at, int bytes, uint32_t value)
-{
-    for (int i = 0; i < bytes; i++)
-        at[i] = (uint8_t)(value >> 8 * (bytes - 1 - i));
-}
-
-static void put_day(uint8_t *at)
-{
-    at[0] = 0x01;
-    put(at + 1, 2, DAY);
-    put(at + 3, 1, QUARTERS);
-    put(at + 4, 4, RUN);
-    put(at + 8, 2, 120);
-    put(at + 10, 2, 1440);
-}
-
-static int32_t nominated(int unit)
-{
-    return 1000 + unit * 997 % 1013;
-}
-
-/* What unit `unit` of `units` sells; with cuts a unit of class 0 sells nothing and one of class 1 about half. A unit that is
- * alone sells half, though it is of class 0. */
-static int32_t sold(int unit, int units, int cut)
-{
-    if (!cut)
-        return nominated(unit);
-    return unit % 2 == 0 && units > 1 ? 0 : nominated(unit) / 2;
-}
-
-static size_t put_block(uint8_t *at, int brp, int zone, int quarter, int units, int cut)
-{
-    at[0] = 0x02;
-    put(at + 1, 2, (uint32_t)brp);
-    put(at + 3, 1, (uint32_t)zone);
-    put(at + 4, 1, (uint32_t)quarter);
-    put(at + 5, 1, (uint32_t)units);
-    put(at + 6, 4, MADE);
-    uint8_t *unit = at + FLEHWELLA_GROUP_LENGTH;
-    for (int i = 0; i < units; i++, unit += FLEHWELLA_UNIT_LENGTH) {
-        unit[0] = 0x03;
-        put(unit + 1, 2, (uint32_t)(10 + 3 * i));
-        put(unit + 3, 1, (uint32_t)(i % 2));
-        put(unit + 4, 1, 0);
-        put(unit + 5, 1, 1);
-        put(unit + 6, 4, (uint32_t)nominated(i));
-        put(unit + 10, 4, (uint32_t)-sold(i, units, cut));
-        put(unit + 14, 4, (uint32_t)-5000);
-        put(unit + 18, 4, 5000);
-        put(unit + 22, 4, MADE);
-    }
-    return (size_t)(unit - at);
-}
-
-/* ---- The two calls ---- */
-
 typedef int32_t judge(const uint8_t *, size_t, const uint8_t *, size_t, uint8_t *, size_t);
+judge best_check;
 
-static int32_t second(const uint8_t *day, size_t day_length, const uint8_t *block, size_t block_length, uint8_t *room,
-                      size_t room_length)
-{
-    return second_check(day, day_length, block, block_length, room, room_length);
-}
+static const struct {
+    const char *name;
+    judge *call;
+} programs[] = {{"call", flehwella_check}, {"second", second_check}, {"best", best_check}};
 
-static uint8_t day[FLEHWELLA_DAY_LENGTH], block[FLEHWELLA_BLOCK_MAX], room[FLEHWELLA_RESULT_MAX];
+enum { PROGRAMS = 3, BLOCKS = 509, FILLER = 0x5A, BEYOND = 64 };
+
+static uint8_t day[FLEHWELLA_DAY_LENGTH], blocks[BLOCKS][FLEHWELLA_BLOCK_MAX], room[FLEHWELLA_RESULT_MAX + BEYOND];
 
 static void stop(const char *why)
 {
@@ -89,74 +35,162 @@ static void stop(const char *why)
     exit(2);
 }
 
-static void judge_times(judge *call, size_t length, int units, long times)
+static enum which case_named(const char *name)
 {
-    for (long i = 0; i < times; i++)
-        if (call(day, sizeof day, block, length, room, sizeof room) != FLEHWELLA_RESULT_LENGTH(units))
+    for (int c = 0; c < CASES; c++)
+        if (strcmp(name, case_names[c]) == 0)
+            return (enum which)c;
+    stop("no such case");
+    return CASES;
+}
+
+static int program_named(const char *name)
+{
+    for (int p = 0; p < PROGRAMS; p++)
+        if (strcmp(name, programs[p].name) == 0)
+            return p;
+    stop("no such program");
+    return PROGRAMS;
+}
+
+static int units_told(const char *word)
+{
+    const int units = atoi(word);
+    if (units < 1 || units > FLEHWELLA_UNITS_MAX)
+        stop("1 to 64 units");
+    return units;
+}
+
+/* ---- Rounds ---- */
+
+static void put_blocks(enum which which, int units)
+{
+    for (int i = 0; i < BLOCKS; i++)
+        put_block(blocks[i], 7, 40, which, units, (uint64_t)i + 1);
+}
+
+static void judge_round(int program, int units)
+{
+    judge *const call = programs[program].call;
+    for (int i = 0; i < BLOCKS; i++)
+        if (call(day, sizeof day, blocks[i], FLEHWELLA_BLOCK_LENGTH((size_t)units), room, FLEHWELLA_RESULT_MAX) !=
+            FLEHWELLA_RESULT_LENGTH(units))
             stop("a block is refused");
 }
 
-/* Cut as it should be: what each unit result shows of n1 and n2 differs in every unit or in none. */
-static void see_cuts(int units, int cut)
+/* A first round of every program, so that what is learnt at first is not counted and 0 rounds cost the same whichever is named. */
+static void judge_first(int units)
 {
-    for (int i = 0; i < units; i++) {
-        const uint8_t *unit = room + FLEHWELLA_GROUP_RESULT_LENGTH + i * FLEHWELLA_UNIT_RESULT_LENGTH;
-        if ((memcmp(unit + 8, unit + 12, 4) != 0) != cut)
-            stop("a unit is not cut as it should be");
+    for (int p = 0; p < PROGRAMS; p++)
+        judge_round(p, units);
+}
+
+static double now(void)
+{
+    struct timespec at;
+    clock_gettime(CLOCK_MONOTONIC, &at);
+    return (double)at.tv_sec * 1e9 + (double)at.tv_nsec;
+}
+
+static void time_rounds(int units, long rounds)
+{
+    for (long r = 0; r < rounds; r++) {
+        double spent[PROGRAMS];
+        for (int k = 0; k < PROGRAMS; k++) { /* another one begins each round */
+            const int p = (int)((r + k) % PROGRAMS);
+            const double from = now();
+            judge_round(p, units);
+            spent[p] = (now() - from) / BLOCKS;
+        }
+        printf("%.2f %.2f %.2f\n", spent[0], spent[1], spent[2]);
     }
 }
 
-static double nanoseconds(judge *call, size_t length, int units, long times)
+/* ---- The same replies and bytes ---- */
+
+/* Whether all programs reply alike to a block and leave the same room, with what lies beyond its length. */
+static int alike(const uint8_t *block, size_t length, size_t room_length)
 {
-    struct timespec from, to;
-    clock_gettime(CLOCK_MONOTONIC, &from);
-    judge_times(call, length, units, times);
-    clock_gettime(CLOCK_MONOTONIC, &to);
-    return ((double)(to.tv_sec - from.tv_sec) * 1e9 + (double)(to.tv_nsec - from.tv_nsec)) / (double)times;
+    uint8_t first[sizeof room];
+    int32_t reply = 0;
+    for (int p = 0; p < PROGRAMS; p++) {
+        memset(room, FILLER, sizeof room);
+        const int32_t got = programs[p].call(day, sizeof day, block, length, room, room_length);
+        if (p == 0) {
+            reply = got;
+            memcpy(first, room, sizeof room);
+        } else if (got != reply || memcmp(first, room, sizeof room) != 0) {
+            return 0;
+        }
+    }
+    return 1;
 }
 
-static void write_day(long blocks)
+/* Each block as it is, with a byte changed, cut short, and with too little room. */
+static void compare_case(enum which which, uint64_t seeds)
 {
-    put_day(day);
-    fwrite(day, 1, sizeof day, stdout);
-    for (long i = 0; i < blocks; i++) {
-        const int quarter = (int)(i % QUARTERS), brp = (int)(i / QUARTERS);
-        const size_t length = put_block(block, brp, 1, quarter, 1 + (int)(i % FLEHWELLA_UNITS_MAX), (int)(i / 2 % 2));
-        fwrite(block, 1, length, stdout);
+    uint8_t *const block = blocks[0];
+    long compared = 0, differ = 0;
+    for (uint64_t seed = 1; seed <= seeds; seed++)
+        for (int units = 1; units <= FLEHWELLA_UNITS_MAX; units++) {
+            const size_t length = put_block(block, 7, 40, which, units, seed), written = FLEHWELLA_RESULT_LENGTH((size_t)units);
+            uint64_t draw = (seed * 64 + (uint64_t)units) * 0x9E3779B97F4A7C15ULL;
+            differ += !alike(block, length, FLEHWELLA_RESULT_MAX);
+            differ += !alike(block, length, written);
+            differ += !alike(block, length, written - 1);
+            differ += !alike(block, length - 1 - drawn(&draw) % 30, written);
+            block[drawn(&draw) % length] ^= (uint8_t)(1 << drawn(&draw) % 8);
+            differ += !alike(block, length, written);
+            compared += 5;
+        }
+    printf("%s %ld %ld\n", case_names[which], compared, differ);
+}
+
+/* ---- Days ---- */
+
+static void write_bytes(const uint8_t *bytes, size_t length)
+{
+    if (fwrite(bytes, 1, length, stdout) != length)
+        stop("could not write");
+}
+
+static void write_day(long count)
+{
+    write_bytes(day, sizeof day);
+    for (long i = 0; i < count; i++) {
+        const int units = 1 + (int)(i * 37 % FLEHWELLA_UNITS_MAX);
+        write_bytes(blocks[0], put_block(blocks[0], (int)(i / QUARTERS), (int)(i % QUARTERS), (enum which)(i % CASES), units, (uint64_t)i + 1));
     }
-    uint8_t end[5] = {0x0F};
-    put(end + 1, 4, (uint32_t)blocks);
-    fwrite(end, 1, sizeof end, stdout);
+    uint8_t end[SECOND_END_LENGTH];
+    put(put(end, 1, SECOND_KIND_END), 4, (uint32_t)count);
+    write_bytes(end, sizeof end);
 }
 
 int main(int words, char **word)
 {
-    const char *what = words > 1 ? word[1] : "";
-    if (strcmp(what, "day") == 0 && words == 3) {
-        write_day(atol(word[2]));
-        return 0;
-    }
-    const int counts = strcmp(what, "count") == 0 && words == 6;
-    if (!counts && !(strcmp(what, "time") == 0 && words == 5))
-        stop("count call|second UNITS CUT TIMES, time UNITS CUT REPEATS, day BLOCKS");
-    const int at = counts ? 3 : 2, units = atoi(word[at]), cut = atoi(word[at + 1]);
-    const long times = atol(word[at + 2]);
-    if (units < 1 || units > FLEHWELLA_UNITS_MAX)
-        stop("1 to 64 units");
+    const char *const what = words > 1 ? word[1] : "";
     put_day(day);
-    const size_t length = put_block(block, 7, 2, 40, units, cut);
-    if (counts) {
-        judge_times(strcmp(word[2], "call") == 0 ? flehwella_check : second, length, units, times);
-        if (times > 0)
-            see_cuts(units, cut);
-        return 0;
-    }
-    const long round = 2000000 / (100 + 100 * units);
-    nanoseconds(flehwella_check, length, units, round);
-    nanoseconds(second, length, units, round);
-    for (long i = 0; i < times; i++) {
-        const double call = nanoseconds(flehwella_check, length, units, round);
-        printf("%.1f %.1f\n", call, nanoseconds(second, length, units, round));
+    if (strcmp(what, "same") == 0 && words == 3) {
+        for (int c = 0; c < CASES; c++)
+            compare_case((enum which)c, (uint64_t)atol(word[2]));
+    } else if (strcmp(what, "judge") == 0 && words == 6) {
+        const int program = program_named(word[2]), units = units_told(word[4]);
+        put_blocks(case_named(word[3]), units);
+        judge_first(units);
+        for (long rounds = atol(word[5]); rounds > 0; rounds--)
+            judge_round(program, units);
+    } else if (strcmp(what, "time") == 0 && words == 5) {
+        const int units = units_told(word[3]);
+        put_blocks(case_named(word[2]), units);
+        judge_first(units);
+        time_rounds(units, atol(word[4]));
+    } else if (strcmp(what, "block") == 0 && words == 4) {
+        write_bytes(day, sizeof day);
+        write_bytes(blocks[0], put_block(blocks[0], 7, 40, case_named(word[2]), units_told(word[3]), 1));
+    } else if (strcmp(what, "day") == 0 && words == 3) {
+        write_day(atol(word[2]));
+    } else {
+        stop("same SEEDS, judge PROGRAM CASE UNITS ROUNDS, time CASE UNITS ROUNDS, block CASE UNITS, day BLOCKS");
     }
     return 0;
 }

@@ -1,0 +1,335 @@
+/* The C call as tight as its author could write it by hand in C for x86-64 without extensions: how close the proved one comes
+ * to what the processor can do. It knows document 01 alone, and gives the same replies and bytes.
+ *
+ * Four units are taken at a time in vectors of 128 bits. It differs from a plain program in this:
+ *  - the checks of a unit are no branches: faults are gathered, and where one is found, or a block has fewer than four units,
+ *    the second program judges the block;
+ *  - whole parts and remainders of the shares come from exact arithmetic on doubles: C n is below 2^53 and so exact, and the
+ *    quotient, below 10^6, lies at least 1/T from the next whole number, far more than its rounding;
+ *  - the odd kWh go to the units whose keys lie above a threshold, which is found by counting in vectors;
+ *  - results are built in vectors, turned into rows and stored 16 bytes at a time. */
+#include "../second/second.h"
+
+#include <immintrin.h>
+#include <string.h>
+
+typedef __m128i v4;
+#define ALL(x) _mm_set1_epi32((int)(x))
+#define ZERO _mm_setzero_si128()
+#define AND _mm_and_si128
+#define OR _mm_or_si128
+#define XOR _mm_xor_si128
+#define NOTAND _mm_andnot_si128 /* ~a & b */
+#define ADD _mm_add_epi32
+#define SUB _mm_sub_epi32
+#define GT _mm_cmpgt_epi32
+#define EQ _mm_cmpeq_epi32
+#define LOAD(p) _mm_loadu_si128((const v4 *)(const void *)(p))
+#define STORE(p, x) _mm_storeu_si128((v4 *)(void *)(p), x)
+#define TOP 0x80000000u /* turns the order of unsigned numbers into that of signed ones, which vectors compare */
+
+enum {
+    QUANTITY_MAX = 1000000,
+    UNITS_MIN = 4,
+    KEYS_FEW = 16 /* so few keys are counted each against each, since a bisection is guessed wrong at every turn */
+};
+
+static inline uint32_t get_u32(const uint8_t *at)
+{
+    uint32_t value;
+    memcpy(&value, at, sizeof value);
+    return __builtin_bswap32(value);
+}
+
+static inline uint32_t get_u16(const uint8_t *at)
+{
+    return (uint32_t)(at[0] << 8 | at[1]);
+}
+
+static inline void put_i32(uint8_t *at, int32_t value)
+{
+    const uint32_t bytes = __builtin_bswap32((uint32_t)value);
+    memcpy(at, &bytes, sizeof bytes);
+}
+
+static inline v4 load_4(const uint8_t *at)
+{
+    int value;
+    memcpy(&value, at, sizeof value);
+    return _mm_cvtsi32_si128(value);
+}
+
+static inline v4 load_8(const uint8_t *at)
+{
+    return _mm_loadl_epi64((const v4 *)(const void *)at);
+}
+
+/* The four bytes of each number turned round. */
+static inline v4 turned(v4 x)
+{
+    x = OR(_mm_slli_epi16(x, 8), _mm_srli_epi16(x, 8));
+    return _mm_shufflehi_epi16(_mm_shufflelo_epi16(x, 0xB1), 0xB1);
+}
+
+static inline v4 chosen(v4 mask, v4 a, v4 b)
+{
+    return OR(AND(mask, a), NOTAND(mask, b));
+}
+
+static inline v4 least(v4 a, v4 b)
+{
+    return chosen(GT(a, b), b, a);
+}
+
+static inline v4 most(v4 a, v4 b)
+{
+    return chosen(GT(a, b), a, b);
+}
+
+static inline int32_t total(v4 x)
+{
+    x = ADD(x, _mm_shuffle_epi32(x, 0xEE));
+    return _mm_cvtsi128_si32(ADD(x, _mm_shuffle_epi32(x, 0x55)));
+}
+
+static inline int all_set(v4 mask)
+{
+    return _mm_movemask_epi8(mask) == 0xFFFF;
+}
+
+/* Four rows to four columns, and back. */
+static inline void transpose(v4 *a, v4 *b, v4 *c, v4 *d)
+{
+    const v4 t0 = _mm_unpacklo_epi32(*a, *b), t1 = _mm_unpacklo_epi32(*c, *d);
+    const v4 t2 = _mm_unpackhi_epi32(*a, *b), t3 = _mm_unpackhi_epi32(*c, *d);
+    *a = _mm_unpacklo_epi64(t0, t1);
+    *b = _mm_unpackhi_epi64(t0, t1);
+    *c = _mm_unpacklo_epi64(t2, t3);
+    *d = _mm_unpackhi_epi64(t2, t3);
+}
+
+/* ---- Reading ---- */
+
+/* What is kept of the units; columns that are read past the last unit have room for it. */
+struct columns {
+    int32_t n0[64], n1[68], m_down[64], m_up[64], head[64], class_of[68], implicit[64], loss[68], key[72];
+};
+
+struct gathered {
+    v4 faults, rising, p, s1;
+};
+
+/* Whether a quantity is outside its range. */
+static inline v4 outside(v4 quantity)
+{
+    return GT(ADD(quantity, ALL(QUANTITY_MAX + TOP)), ALL((2 * QUANTITY_MAX) ^ TOP));
+}
+
+/* Reads four units into the columns at i; those of `mine` count in the sums. The number before the first is `before`, and that
+ * of the last is given back. */
+static inline __attribute__((always_inline)) v4 read_4(const uint8_t *at, struct columns *c, unsigned i, struct gathered *g,
+                                                       v4 before, v4 mine, uint32_t run, uint32_t age_limit)
+{
+    const __m128 a = _mm_castsi128_ps(_mm_unpacklo_epi64(load_8(at), load_8(at + 26)));
+    const __m128 b = _mm_castsi128_ps(_mm_unpacklo_epi64(load_8(at + 52), load_8(at + 78)));
+    const v4 head = _mm_castps_si128(_mm_shuffle_ps(a, b, 0x88));  /* kind, number, class */
+    const v4 flags = _mm_castps_si128(_mm_shuffle_ps(a, b, 0xDD)); /* coincide, nominated */
+    v4 faults = OR(XOR(AND(head, ALL(0xFE0000FFu)), ALL(SECOND_KIND_UNIT)), AND(flags, ALL(0xFEFE)));
+    const v4 number = OR(AND(head, ALL(0xFF00)), AND(_mm_srli_epi32(head, 16), ALL(0xFF)));
+    g->rising = AND(g->rising, GT(number, OR(_mm_slli_si128(number, 4), before)));
+    const v4 class_of = _mm_srai_epi32(_mm_slli_epi32(head, 7), 31);
+    const v4 coincide = _mm_srai_epi32(_mm_slli_epi32(flags, 31), 31), nominated = _mm_srai_epi32(_mm_slli_epi32(flags, 23), 31);
+
+    v4 n = turned(LOAD(at + 6)), pc = turned(LOAD(at + 32)), m_down = turned(LOAD(at + 58)), m_up = turned(LOAD(at + 84));
+    transpose(&n, &pc, &m_down, &m_up); /* until here each was a unit's four quantities */
+    faults = OR(faults, OR(OR(outside(n), outside(pc)), OR(outside(m_down), outside(m_up))));
+    faults = OR(faults, OR(GT(m_down, m_up), NOTAND(nominated, n)));
+    const v4 made = turned(_mm_unpacklo_epi64(_mm_unpacklo_epi32(load_4(at + 22), load_4(at + 48)),
+                                              _mm_unpacklo_epi32(load_4(at + 74), load_4(at + 100))));
+    faults = OR(faults, GT(XOR(made, ALL(TOP)), ALL(run ^ TOP)));
+    faults = OR(faults, GT(XOR(SUB(ALL(run), made), ALL(TOP)), ALL(age_limit ^ TOP)));
+    g->faults = OR(g->faults, faults);
+
+    const v4 implicit = NOTAND(nominated, coincide), n0 = OR(n, AND(implicit, SUB(ZERO, pc)));
+    const v4 n1 = OR(AND(GT(n0, ZERO), least(n0, m_up)), AND(GT(ZERO, n0), most(n0, m_down)));
+    g->p = ADD(g->p, AND(pc, mine));
+    g->s1 = ADD(g->s1, AND(n1, mine));
+    STORE(c->n0 + i, n0);
+    STORE(c->n1 + i, n1);
+    STORE(c->m_down + i, m_down);
+    STORE(c->m_up + i, m_up);
+    STORE(c->head + i, head);
+    STORE(c->class_of + i, class_of);
+    STORE(c->implicit + i, implicit);
+    return _mm_srli_si128(number, 12);
+}
+
+/* ---- The odd kWh ---- */
+
+/* What exactly `left` of the keys lie above. Keys differ but for those without a remainder, which are at the bottom. */
+static inline int32_t bisected(const int32_t *key, unsigned units, uint32_t left, uint32_t top)
+{
+    for (uint32_t low = 0, high = top;;) { /* more than `left` above low, fewer above high */
+        const uint32_t middle = low + (high - low) / 2;
+        const v4 bar = ALL(middle ^ TOP);
+        v4 even = ZERO, odd = ZERO;
+        for (unsigned i = 0; i < units; i += 8) {
+            even = SUB(even, GT(LOAD(key + i), bar));
+            odd = SUB(odd, GT(LOAD(key + i + 4), bar));
+        }
+        const uint32_t above = (uint32_t)total(ADD(even, odd));
+        if (above == left)
+            return (int32_t)(middle ^ TOP);
+        if (above > left)
+            low = middle;
+        else
+            high = middle;
+    }
+}
+
+/* The same: the one key that has exactly `left` above it. */
+static inline int32_t counted(const int32_t *key, unsigned units, uint32_t left)
+{
+    v4 found = ZERO;
+    for (unsigned i = 0; i < units; i += 4) {
+        const v4 mine = LOAD(key + i);
+        v4 above = ALL(left);
+        for (unsigned j = 0; j < units; j++)
+            above = ADD(above, GT(ALL(key[j]), mine));
+        found = OR(found, AND(EQ(above, ZERO), mine));
+    }
+    found = OR(found, _mm_shuffle_epi32(found, 0xEE));
+    return _mm_cvtsi128_si32(OR(found, _mm_shuffle_epi32(found, 0x55)));
+}
+
+/* ---- Step 2 ---- */
+
+/* Works out what each unit loses of the excess, but for the odd kWh: those go to the units with a key above the one given back. */
+static inline __attribute__((always_inline)) v4 cut(struct columns *c, unsigned units, int32_t excess)
+{
+    const v4 back = excess < 0 ? ALL(-1) : ZERO; /* turns withdrawals into sizes */
+    uint32_t lost = excess < 0 ? (uint32_t)-excess : (uint32_t)excess;
+    v4 total_0 = ZERO, total_1 = ZERO;
+    for (unsigned i = 0; i < units; i += 4) {
+        const v4 z = SUB(XOR(LOAD(c->n1 + i), back), back), size = AND(z, GT(z, ZERO)), class_of = LOAD(c->class_of + i);
+        STORE(c->loss + i, size);
+        total_0 = ADD(total_0, NOTAND(class_of, size));
+        total_1 = ADD(total_1, AND(class_of, size));
+    }
+    uint32_t shared = (uint32_t)total(total_0);
+    v4 sharing = ZERO; /* the class that shares; where it is class 1, class 0 loses all */
+    if (lost >= shared) {
+        lost -= shared;
+        shared = (uint32_t)total(total_1);
+        sharing = ALL(-1);
+    }
+    const __m128d C = _mm_set1_pd((double)lost), T = _mm_set1_pd((double)(shared ? shared : 1));
+    v4 given = ZERO, order = _mm_set_epi32(60, 61, 62, 63);
+    unsigned i = 0;
+    for (; i < units; i += 4) {
+        const v4 size = LOAD(c->loss + i), shares = EQ(LOAD(c->class_of + i), sharing), part = AND(size, shares);
+        const __m128d a = _mm_mul_pd(_mm_cvtepi32_pd(part), C), b = _mm_mul_pd(_mm_cvtepi32_pd(_mm_shuffle_epi32(part, 0xEE)), C);
+        const v4 whole_a = _mm_cvttpd_epi32(_mm_div_pd(a, T)), whole_b = _mm_cvttpd_epi32(_mm_div_pd(b, T));
+        const v4 rest_a = _mm_cvttpd_epi32(_mm_sub_pd(a, _mm_mul_pd(_mm_cvtepi32_pd(whole_a), T)));
+        const v4 rest_b = _mm_cvttpd_epi32(_mm_sub_pd(b, _mm_mul_pd(_mm_cvtepi32_pd(whole_b), T)));
+        const v4 whole = _mm_unpacklo_epi64(whole_a, whole_b), rest = _mm_unpacklo_epi64(rest_a, rest_b);
+        given = ADD(given, whole);
+        STORE(c->loss + i, OR(whole, NOTAND(shares, AND(size, sharing))));
+        STORE(c->key + i, XOR(NOTAND(EQ(rest, ZERO), ADD(_mm_slli_epi32(rest, 6), order)), ALL(TOP)));
+        order = SUB(order, ALL(4));
+    }
+    STORE(c->key + i, ALL(TOP)); /* a bisection reads eight at a time */
+    const uint32_t left = lost - (uint32_t)total(given);
+    if (left == 0)
+        return ALL(INT32_MAX);
+    return ALL(units <= KEYS_FEW ? counted(c->key, units, left) : bisected(c->key, units, left, shared * 64));
+}
+
+/* ---- Results ---- */
+
+/* Lays the results of four units, and adds n3 of those of `mine`. */
+static inline __attribute__((always_inline)) v4 write_4(uint8_t *at, const struct columns *c, unsigned i, int32_t excess, v4 bar,
+                                                        v4 mine, v4 s3)
+{
+    v4 n0 = LOAD(c->n0 + i), n1 = LOAD(c->n1 + i), n2 = n1;
+    const v4 m_down = LOAD(c->m_down + i), m_up = LOAD(c->m_up + i);
+    if (excess != 0) {
+        const v4 loss = SUB(LOAD(c->loss + i), GT(LOAD(c->key + i), bar)), back = excess < 0 ? ALL(-1) : ZERO;
+        n2 = SUB(n1, SUB(XOR(loss, back), back));
+    }
+    v4 n3 = OR(AND(GT(n2, ZERO), most(n2, m_down)), AND(GT(ZERO, n2), least(n2, m_up)));
+    const v4 off_margins = AND(EQ(n3, ZERO), OR(GT(m_down, ZERO), GT(ZERO, m_up)));
+    v4 reason = OR(AND(LOAD(c->implicit + i), ALL(1 << 24)), AND(off_margins, ALL(16 << 24)));
+    reason = OR(reason, NOTAND(EQ(n0, n1), ALL(2 << 24)));
+    reason = OR(reason, OR(NOTAND(EQ(n1, n2), ALL(4 << 24)), NOTAND(EQ(n2, n3), ALL(8 << 24))));
+    int32_t head[4];
+    STORE(head, OR(OR(reason, ALL(SECOND_KIND_UNIT_RESULT)), AND(LOAD(c->head + i), ALL(0x00FFFF00))));
+    s3 = ADD(s3, AND(n3, mine));
+    transpose(&n0, &n1, &n2, &n3); /* from here each is a unit's n0 to n3 */
+    memcpy(at, head, 4);
+    STORE(at + 4, turned(n0));
+    memcpy(at + 20, head + 1, 4);
+    STORE(at + 24, turned(n1));
+    memcpy(at + 40, head + 2, 4);
+    STORE(at + 44, turned(n2));
+    memcpy(at + 60, head + 3, 4);
+    STORE(at + 64, turned(n3));
+    return s3;
+}
+
+static const int32_t masks[8] = {0, 0, 0, 0, -1, -1, -1, -1};
+
+int32_t best_check(const uint8_t *day, size_t day_length, const uint8_t *block, size_t block_length, uint8_t *room, size_t room_length);
+int32_t best_check(const uint8_t *day, size_t day_length, const uint8_t *block, size_t block_length, uint8_t *room, size_t room_length)
+{
+    if (day_length < SECOND_DAY_LENGTH || day[0] != SECOND_KIND_DAY || block_length < SECOND_GROUP_LENGTH ||
+        block[0] != SECOND_KIND_GROUP)
+        return second_check(day, day_length, block, block_length, room, room_length);
+    const unsigned quarters = day[3], units = block[5];
+    const uint32_t run = get_u32(day + 4), position_age_limit = get_u16(day + 8), margin_age_limit = get_u16(day + 10);
+    const uint32_t made = get_u32(block + 6);
+    const size_t written = SECOND_GROUP_RESULT_LENGTH + SECOND_UNIT_RESULT_LENGTH * (size_t)units;
+    if ((quarters != 92 && quarters != 96 && quarters != 100) || block[4] >= quarters || units < UNITS_MIN ||
+        units > SECOND_UNITS_MAX || made > run || run - made > position_age_limit ||
+        block_length < SECOND_GROUP_LENGTH + SECOND_UNIT_LENGTH * (size_t)units || room_length < written)
+        return second_check(day, day_length, block, block_length, room, room_length);
+
+    /* What is left over of four at a time is taken again with the units before it. */
+    struct columns c;
+    const v4 nothing_before = _mm_set_epi32(0, 0, 0, -1), all = ALL(-1);
+    const unsigned odd = units % 4, last = units - 4;
+    const v4 mine_of_last = LOAD(masks + odd);
+    const uint8_t *const unit = block + SECOND_GROUP_LENGTH;
+    struct gathered g = {ZERO, all, ZERO, ZERO};
+    v4 before = nothing_before;
+    for (unsigned i = 0; i + 4 <= units; i += 4)
+        before = read_4(unit + SECOND_UNIT_LENGTH * i, &c, i, &g, before, all, run, margin_age_limit);
+    if (odd) {
+        read_4(unit + SECOND_UNIT_LENGTH * last, &c, last, &g, nothing_before, mine_of_last, run, margin_age_limit);
+        STORE(c.n1 + units, ZERO);
+        STORE(c.class_of + units, ZERO);
+    }
+    if (!all_set(EQ(g.faults, ZERO)) || !all_set(g.rising))
+        return second_check(day, day_length, block, block_length, room, room_length);
+
+    const int32_t p = total(g.p), s1 = total(g.s1), high = -p > 0 ? -p : 0, low = -p < 0 ? -p : 0;
+    const int32_t excess = s1 > high ? s1 - high : s1 < low ? s1 - low : 0;
+    const v4 bar = excess != 0 ? cut(&c, units, excess) : ZERO;
+    uint8_t *const result = room + SECOND_GROUP_RESULT_LENGTH;
+    v4 sums = ZERO;
+    for (unsigned i = 0; i + 4 <= units; i += 4)
+        sums = write_4(result + SECOND_UNIT_RESULT_LENGTH * i, &c, i, excess, bar, all, sums);
+    if (odd)
+        sums = write_4(result + SECOND_UNIT_RESULT_LENGTH * last, &c, last, excess, bar, mine_of_last, sums);
+    const int32_t s3 = total(sums);
+    memcpy(room, block, 5);
+    room[0] = SECOND_KIND_GROUP_RESULT;
+    room[5] = (uint8_t)((excess > 0 ? 1 : excess < 0 ? 2 : 0) + (s3 > high || s3 < low ? 4 : 0));
+    room[6] = (uint8_t)units;
+    put_i32(room + 7, p);
+    put_i32(room + 11, s1);
+    put_i32(room + 15, s1 - excess);
+    put_i32(room + 19, s3);
+    put_i32(room + 23, -p - s3);
+    return (int32_t)written;
+}
