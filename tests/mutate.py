@@ -96,7 +96,8 @@ class Region:
     """A function's body, with the types of its parameters, or a constant's value, with none."""
 
     def __init__(self, crate, path, text, name, start, end, kinds):
-        self.crate, self.path, self.text, self.name, self.start, self.kinds = crate, path, text, name, start, kinds
+        self.crate, self.path, self.text, self.name, self.kinds = crate, path, text, name, kinds
+        self.start, self.end = start, end
         self.tokens = tokens_of(text, start, end)
         self.partner = {}
         stack = []
