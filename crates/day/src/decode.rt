@@ -2,7 +2,7 @@
 ghost use mathlib.Core.Path.{_≡_};
 ghost use mathlib.Core.Bool.{false};
 ghost use lib.IntN.{pos};
-ghost use Rattle.day.specs.Inner.{Begun, UnitRoom, UnitsRead, UnitsPassed, UnitsTold};
+ghost use Rattle.day.specs.Inner.{Begun, UnitRoom, UnitsRead, UnitsTold};
 ghost use Rattle.day.specs.Blocks.{blockCount};
 use group::check::amounts_pass;
 use records::faults::marks_pass;
@@ -82,37 +82,13 @@ fn read_into(
     }
 }
 
-// The same, and a look at all nominations and margins.
-fn pass_into(
-    s: &[u8],
-    run: u32,
-    limit: u16,
-    class: &mut [u8],
-    taken: &mut [u8],
-    n0: &mut [i32],
-    step_down: &mut [i32],
-    step_up: &mut [i32],
-) -> Reading
-    requires { ⌜ Begun (now s) × UnitRoom (blockCount (now s)) (now class) (now taken) (now n0) (now «step_down») (now «step_up») ⌝ }
-    ensures { λ r. ⌜ UnitsPassed (now (s .entry)) run limit r (now (class .exit)) (now (taken .exit)) (now (n0 .exit)) (now («step_down» .exit)) (now («step_up» .exit)) ⌝ }
-{
-    let read = read_into(s, run, limit, class, taken, n0, step_down, step_up);
-    if !read.whole {
-        return broken_off();
-    }
-    if amounts_pass(n0, step_down, step_up) {
-        return read;
-    }
-    broken_off()
-}
-
 // The units of a block: P, and where they end, or the first refusal.
 pub struct Units {
     pub p: Position,
     pub end: Answer,
 }
 
-// The units of a block, checked and read. Which field is wrong is asked only once one is.
+// The units of a block, read, and then a look at all nominations and margins. Which field is wrong is asked only once one is.
 pub fn units_into(
     s: &[u8],
     run: u32,
@@ -126,9 +102,9 @@ pub fn units_into(
     requires { ⌜ Begun (now s) × UnitRoom (blockCount (now s)) (now class) (now taken) (now n0) (now «step_down») (now «step_up») ⌝ }
     ensures { λ r. ⌜ UnitsTold (now (s .entry)) run limit r (now (class .exit)) (now (taken .exit)) (now (n0 .exit)) (now («step_down» .exit)) (now («step_up» .exit)) ⌝ }
 {
-    let read = pass_into(s, run, limit, class, taken, n0, step_down, step_up);
+    let read = read_into(s, run, limit, class, taken, n0, step_down, step_up);
     let p = read.p;
-    if read.whole {
+    if read.whole && amounts_pass(n0, step_down, step_up) {
         return Units {
             p,
             end: Answer::Is(read.end),

@@ -4,8 +4,9 @@ ghost use Prim.Native.Nat.{_≤_};
 ghost use lib.ListN.{length};
 ghost use Rattle.numbers.specs.Bytes.{laidAt};
 ghost use Rattle.records.specs.Layouts.{groupAt};
+ghost use Rattle.writers.specs.Results.{resultLength};
 ghost use Rattle.day.specs.Blocks.{blockResult, blockCount};
-ghost use Rattle.day.specs.Inner.{Begun, UnitRoom, Cutting, Taking};
+ghost use Rattle.day.specs.Inner.{Begun, Passed, UnitRoom, Decoded, Cutting, Taking};
 use crate::check::BlockAnswer;
 use crate::check::block_units;
 use crate::lay::lay_group_result;
@@ -74,6 +75,28 @@ fn write_cut(
     );
 }
 
+// Steps 1 and 2 of a block that passed, and then the same, by way of the columns that were read and two that are lent.
+fn write_passed(
+    s: &[u8],
+    p: Position,
+    room: &mut [u8],
+    class: &[u8],
+    why: &mut [u8],
+    n0: &[i32],
+    n1: &mut [i32],
+    n2: &mut [i32],
+    step_down: &[i32],
+    step_up: &[i32],
+)
+    requires { ⌜ Passed (now s) × Decoded (now s) (p .0) (now class) (now why) (now n0) (now «step_down») (now «step_up») ⌝ }
+    requires { ⌜ (length (now n1) ≡ blockCount (now s)) × (length (now n2) ≡ blockCount (now s)) ⌝ }
+    requires { ⌜ resultLength (blockCount (now s)) ≤ length (now room) ⌝ }
+    ensures { λ _. ⌜ now (room .exit) ≡ laidAt (now (room .entry)) 0 (blockResult (now (s .entry))) ⌝ }
+{
+    let cut = cut_all(p, n0, step_down, step_up, class, n1, n2);
+    write_cut(s, p, cut, room, why, n0, n1, n2, step_down, step_up);
+}
+
 // A block is checked, then the room; then it is judged and its result written, by way of lent columns.
 fn take_through(
     s: &[u8],
@@ -105,9 +128,18 @@ fn take_through(
             place: 0,
         });
     }
-    let p = told.p;
-    let cut = cut_all(p, n0, step_down, step_up, class, n1, n2);
-    write_cut(s, p, cut, room, taken, n0, n1, n2, step_down, step_up);
+    write_passed(
+        s,
+        told.p,
+        room,
+        class,
+        taken,
+        n0,
+        n1,
+        n2,
+        step_down,
+        step_up,
+    );
     BlockAnswer::Is(block)
 }
 

@@ -1,15 +1,26 @@
 -- Units that pass end where the reading came to; of others the exact check says what is wrong.
-use mathlib.Core.Path.{refl, ap, _∙_}
+use mathlib.Core.Bool.{false}
+use mathlib.Core.Logic.{⊎-elim}
+use mathlib.Core.Path.{refl, sym, ap, _∙_}
 use denote.Ref.{now}
+use lib.IntN.{pos}
 use Rattle.records.specs.Layouts.{groupLength}
 use Rattle.records.specs.Reading.{unitsOf}
-use Rattle.day.proofs.Telling.{told-end, told-refusal}
+use Rattle.day.specs.declared.decode.Reading.{Reading}
+use Rattle.day.proofs.Telling.{pass-broken, pass-all, pass-not, told-end, told-refusal}
 use borrow.Author.Needs.{needs}
 use Rattle.day.proofs.decode.units_into.Statement.{statement}
 use Rattle.day.proofs.decode.units_into.Tie as tie
 
-pass-into-requires : tie.Need-pass-into-requires
-pass-into-requires c κs = search needs
+-- a reading that says of units that they do not pass
+abbrev broken : Reading
+broken = record { whole = false; p = record { 0 = pos 0 }; end = 0 }
+
+read-into-requires : tie.Need-read-into-requires
+read-into-requires c κs = search needs
+
+amounts-pass-requires : tie.Need-amounts-pass-requires
+amounts-pass-requires c κs = search needs
 
 same-length : tie.Need-same-length
 same-length c = search needs
@@ -28,8 +39,10 @@ same-length-5 c = search needs
 
 returns : tie.Need-returns
 returns c =
-    let pass = c .before .before .before .before .before .before .before .before .before in
-    told-end (pass .pass-into .ensures) (c .if1 .taken) refl refl
+    let test = c .before .before .before .before .before in
+    let read = test .before .before .before .before .before .before .before .before .before in
+    let start = read .before .before .before .before .before .before .before .before .before in
+    told-end (pass-all (start .pre .0) (read .read-into .ensures) (test .if1 .taken) (sym (c .before .amounts-pass .ensures) ∙ c .if2 .taken)) (test .if1 .taken) refl refl
 
 units-from-requires : tie.Need-units-from-requires
 units-from-requires c κs = search needs
@@ -51,17 +64,24 @@ same-length-10 c = search needs
 
 returns-2 : tie.Need-returns-2
 returns-2 c =
-    let pass = c .before .before .before .before .before .before .before .before .before .before in
-    let start = pass .before .before .before .before .before .before .before .before .before in
+    let met = c .before in
+    let read = met .before .before .before .before .before .before .before .before .before in
+    let start = read .before .before .before .before .before .before .before .before .before in
     let x = start .args in
     let n = same-length-8 c ∙ start .pre .1 .starts in
-    told-refusal (pass .pass-into .ensures) (c .before .if1 .left) (c .units-from .ensures ∙ ap (unitsOf (now (x .s)) groupLength 0 (x .run) (x .limit)) n)
+    let e = c .units-from .ensures ∙ ap (unitsOf (now (x .s)) groupLength 0 (x .run) (x .limit)) n in
+    let u = read .read-into .ensures in
+    ⊎-elim
+    (λ w. told-refusal (pass-not (start .pre .0) u {q = broken} (w .0 .taken) (sym (w .4 .ensures) ∙ w .5 .left) refl) refl e)
+    (λ w. told-refusal (pass-broken (start .pre .0) u {q = broken} (w .left) refl) refl e)
+    (met .if1 .came)
 
 pub units-into-spec : {M : Type 1} → statement M
 units-into-spec =
     tie.close
     (tie.spec
-    pass-into-requires
+    read-into-requires
+    amounts-pass-requires
     same-length
     same-length-2
     same-length-3

@@ -9,7 +9,6 @@ use Rattle.terms.specs.Reply.{is}
 use Rattle.writers.specs.Results.{resultLength}
 use Rattle.day.specs.Blocks.{blockCount}
 use Rattle.day.specs.Checking.{blockReply, blockUnitsOf}
-use Rattle.day.proofs.Passing.{may-cut, cutting}
 use Rattle.day.proofs.Telling.{taking-refused, taking-small, taking-done, taken-long}
 use borrow.Author.Needs.{needs}
 use Rattle.day.proofs.result.take_through.Statement.{statement}
@@ -79,48 +78,37 @@ enough c =
     let e = rw (known .b .given .1) at (units .block-units .ensures .replied) in
     omega (arith, taken-long _ _ _ _ (now (start .args .room)) e (start .pre .0 .1), c .if1 .left)
 
-cut-all-requires : tie.Need-cut-all-requires
-cut-all-requires c κs =
-    let test = c .before .before .before .before .before .before .before in
+write-passed-requires : tie.Need-write-passed-requires
+write-passed-requires c κs =
+    let test = c .before .before .before .before .before .before .before .before in
     let known = test .before .before .before in
     let units = known .before .before .before .before .before .before .before .before .before in
     let start = units .before .before .before .before .before .before .before .before .before .before in
     let told = units .block-units .ensures in
     let k = ap blockReply (known .b .given .1) in
-    may-cut (told .passed _ k) (told .decoded _ k) (start .pre .1 .1 .0) (start .pre .1 .1 .1)
-
-write-cut-requires : tie.Need-write-cut-requires
-write-cut-requires c κs =
-    let cut = c .before .before .before .before .before .before .before .before .before in
-    let test = cut .before .before .before .before .before .before .before .before in
-    let known = test .before .before .before in
-    let units = known .before .before .before .before .before .before .before .before .before in
-    let start = units .before .before .before .before .before .before .before .before .before .before in
-    let told = units .block-units .ensures in
-    let k = ap blockReply (known .b .given .1) in
-    cutting (told .passed _ k) (told .decoded _ k) (cut .cut-all .ensures) (enough test)
+    ((told .passed _ k, told .decoded _ k), (start .pre .1 .1, enough test))
 
 same-length-11 : tie.Need-same-length-11
 same-length-11 c = search needs
 
 same-length-12 : tie.Need-same-length-12
 same-length-12 c =
-    let wrote = c .before .before .before .before in
-    let test = wrote .before .before .before .before .before .before .before .before .before .before .before .before .before .before .before .before .before .before in
+    let wrote = c .before .before .before .before .before .before in
+    let test = wrote .before .before .before .before .before .before .before .before .before in
     let units = test .before .before .before .before .before .before .before .before .before .before .before .before in
     units .block-units .kept .1 .1 .1 .1 .0
 
 same-length-13 : tie.Need-same-length-13
 same-length-13 c =
-    let wrote = c .before .before .before .before in
-    let test = wrote .before .before .before .before .before .before .before .before .before .before .before .before .before .before .before .before .before .before in
+    let wrote = c .before .before .before .before .before .before in
+    let test = wrote .before .before .before .before .before .before .before .before .before in
     let units = test .before .before .before .before .before .before .before .before .before .before .before .before in
-    wrote .write-cut .kept .1 .1 .1 .1 .0 ∙ units .block-units .kept .1 .1 .1 .1 .1 .0
+    wrote .write-passed .kept .1 .1 .1 .1 .0 ∙ units .block-units .kept .1 .1 .1 .1 .1 .0
 
 same-length-14 : tie.Need-same-length-14
 same-length-14 c =
-    let wrote = c .before .before .before .before in
-    let test = wrote .before .before .before .before .before .before .before .before .before .before .before .before .before .before .before .before .before .before in
+    let wrote = c .before .before .before .before .before .before in
+    let test = wrote .before .before .before .before .before .before .before .before .before in
     let units = test .before .before .before .before .before .before .before .before .before .before .before .before in
     units .block-units .kept .1 .1 .1 .1 .1 .1 .0
 
@@ -132,28 +120,28 @@ same-length-16 c = search needs
 
 same-length-17 : tie.Need-same-length-17
 same-length-17 c =
-    let wrote = c .before .before .before .before in
-    let test = wrote .before .before .before .before .before .before .before .before .before .before .before .before .before .before .before .before .before .before in
+    let wrote = c .before .before .before .before .before .before in
+    let test = wrote .before .before .before .before .before .before .before .before .before in
     let units = test .before .before .before .before .before .before .before .before .before .before .before .before in
     units .block-units .kept .1 .1 .1 .1 .1 .1 .1 .0
 
 same-length-18 : tie.Need-same-length-18
 same-length-18 c =
-    let wrote = c .before .before .before .before in
-    let test = wrote .before .before .before .before .before .before .before .before .before .before .before .before .before .before .before .before .before .before in
+    let wrote = c .before .before .before .before .before .before in
+    let test = wrote .before .before .before .before .before .before .before .before .before in
     let units = test .before .before .before .before .before .before .before .before .before .before .before .before in
     units .block-units .kept .1 .1 .1 .1 .1 .1 .1 .1 .0
 
 returns-3 : tie.Need-returns-3
 returns-3 c =
-    let wrote = c .before .before .before .before in
-    let test = wrote .before .before .before .before .before .before .before .before .before .before .before .before .before .before .before .before .before .before in
+    let wrote = c .before .before .before .before .before .before in
+    let test = wrote .before .before .before .before .before .before .before .before .before in
     let known = test .before .before .before in
     let units = known .before .before .before .before .before .before .before .before .before in
     let start = units .before .before .before .before .before .before .before .before .before .before in
     let e = rw (known .b .given .1) at (units .block-units .ensures .replied) in
     let t = le-leb (known .b .given .0 .0 .written) (length (now (start .args .room))) (test .if1 .left) in
-    taking-done _ _ _ _ _ e t (wrote .write-cut .ensures)
+    taking-done _ _ _ _ _ e t (wrote .write-passed .ensures)
 
 pub take-through-spec : {M : Type 1} → statement M
 take-through-spec =
@@ -175,8 +163,7 @@ take-through-spec =
     same-length-9
     same-length-10
     returns-2
-    cut-all-requires
-    write-cut-requires
+    write-passed-requires
     same-length-11
     same-length-12
     same-length-13

@@ -1,0 +1,43 @@
+-- The columns of a block that passed may go through steps 1 and 2, and what these leave through step 3.
+use Rattle.day.proofs.Passing.{may-cut, cutting}
+use borrow.Author.Needs.{needs}
+use Rattle.day.proofs.result.write_passed.Statement.{statement}
+use Rattle.day.proofs.result.write_passed.Tie as tie
+
+cut-all-requires : tie.Need-cut-all-requires
+cut-all-requires c κs =
+    let start = c .before .before .before .before .before .before in
+    may-cut (start .pre .0 .0) (start .pre .0 .1) (start .pre .1 .0 .0) (start .pre .1 .0 .1)
+
+write-cut-requires : tie.Need-write-cut-requires
+write-cut-requires c κs =
+    let cut = c .before .before .before .before .before .before in
+    let start = cut .before .before .before .before .before .before .before in
+    cutting (start .pre .0 .0) (start .pre .0 .1) (cut .cut-all .ensures) (start .pre .1 .1)
+
+same-length : tie.Need-same-length
+same-length c = search needs
+
+same-length-2 : tie.Need-same-length-2
+same-length-2 c = search needs
+
+same-length-3 : tie.Need-same-length-3
+same-length-3 c = search needs
+
+same-length-4 : tie.Need-same-length-4
+same-length-4 c = search needs
+
+returns : tie.Need-returns
+returns c = search needs
+
+pub write-passed-spec : {M : Type 1} → statement M
+write-passed-spec =
+    tie.close
+    (tie.spec
+    cut-all-requires
+    write-cut-requires
+    same-length
+    same-length-2
+    same-length-3
+    same-length-4
+    returns)
