@@ -13,45 +13,44 @@ use Rattle.records.specs.Layouts.{behind, groupAt, groupResultBytes}
 use Rattle.writers.proofs.Lengths.{length-group-result}
 use Rattle.day.specs.Blocks.{groupResult, blockKey, blockCount}
 use Rattle.day.proofs.Laying.{laid-quantity}
-use borrow.Author.Needs.{needs}
 use Rattle.day.proofs.lay.lay_group_result.Statement.{statement}
 use Rattle.day.proofs.lay.lay_group_result.Tie as tie
 
 lay-i32-requires : tie.Need-lay-i32-requires
-lay-i32-requires c κs = search needs
+lay-i32-requires c κs = omega arith
 
 u16-at-requires : tie.Need-u16-at-requires
-u16-at-requires c κs = search needs
+u16-at-requires c κs = omega arith
 
 add-lay-i32 : tie.Need-add-lay-i32
-add-lay-i32 c = search needs
+add-lay-i32 c = omega arith
 
 lay-i32-requires-2 : tie.Need-lay-i32-requires-2
-lay-i32-requires-2 c κs = search needs
+lay-i32-requires-2 c κs = omega arith
 
 shared-slice-read-zone : tie.Need-shared-slice-read-zone
-shared-slice-read-zone c = search needs
+shared-slice-read-zone c = omega arith
 
 add-lay-i32-2 : tie.Need-add-lay-i32-2
-add-lay-i32-2 c = search needs
+add-lay-i32-2 c = omega arith
 
 lay-i32-requires-3 : tie.Need-lay-i32-requires-3
-lay-i32-requires-3 c κs = search needs
+lay-i32-requires-3 c κs = omega arith
 
 shared-slice-read-quarter : tie.Need-shared-slice-read-quarter
-shared-slice-read-quarter c = search needs
+shared-slice-read-quarter c = omega arith
 
 add-lay-i32-3 : tie.Need-add-lay-i32-3
-add-lay-i32-3 c = search needs
+add-lay-i32-3 c = omega arith
 
 lay-i32-requires-4 : tie.Need-lay-i32-requires-4
-lay-i32-requires-4 c κs = search needs
+lay-i32-requires-4 c κs = omega arith
 
 shared-slice-read-count : tie.Need-shared-slice-read-count
-shared-slice-read-count c = search needs
+shared-slice-read-count c = omega arith
 
 lay-i32-requires-5 : tie.Need-lay-i32-requires-5
-lay-i32-requires-5 c κs = search needs
+lay-i32-requires-5 c κs = omega arith
 
 lay-head-requires : tie.Need-lay-head-requires
 lay-head-requires c κs =

@@ -18,79 +18,79 @@ use Rattle.day.proofs.lay.lay_unit_result.Statement.{statement}
 use Rattle.day.proofs.lay.lay_unit_result.Tie as tie
 
 mul-start : tie.Need-mul-start
-mul-start c = search needs
+mul-start c = omega arith
 
 shared-slice-copy-out-start : tie.Need-shared-slice-copy-out-start
-shared-slice-copy-out-start c = search needs
+shared-slice-copy-out-start c = omega arith
 
 add-lay-i32 : tie.Need-add-lay-i32
-add-lay-i32 c = search needs
+add-lay-i32 c = omega arith
 
 lay-i32-requires : tie.Need-lay-i32-requires
-lay-i32-requires c κs = search needs
+lay-i32-requires c κs = omega arith
 
 mul-first : tie.Need-mul-first
-mul-first c = search needs
+mul-first c = omega arith
 
 shared-slice-copy-out-first : tie.Need-shared-slice-copy-out-first
-shared-slice-copy-out-first c = search needs
+shared-slice-copy-out-first c = omega arith
 
 add-lay-i32-2 : tie.Need-add-lay-i32-2
-add-lay-i32-2 c = search needs
+add-lay-i32-2 c = omega arith
 
 add-lay-i32-3 : tie.Need-add-lay-i32-3
-add-lay-i32-3 c = search needs
+add-lay-i32-3 c = omega arith
 
 lay-i32-requires-2 : tie.Need-lay-i32-requires-2
-lay-i32-requires-2 c κs = search needs
+lay-i32-requires-2 c κs = omega arith
 
 mul-second : tie.Need-mul-second
-mul-second c = search needs
+mul-second c = omega arith
 
 shared-slice-copy-out-second : tie.Need-shared-slice-copy-out-second
-shared-slice-copy-out-second c = search needs
+shared-slice-copy-out-second c = omega arith
 
 add-lay-i32-4 : tie.Need-add-lay-i32-4
-add-lay-i32-4 c = search needs
+add-lay-i32-4 c = omega arith
 
 add-lay-i32-5 : tie.Need-add-lay-i32-5
-add-lay-i32-5 c = search needs
+add-lay-i32-5 c = omega arith
 
 lay-i32-requires-3 : tie.Need-lay-i32-requires-3
-lay-i32-requires-3 c κs = search needs
+lay-i32-requires-3 c κs = omega arith
 
 mul-third : tie.Need-mul-third
-mul-third c = search needs
+mul-third c = omega arith
 
 shared-slice-copy-out-third : tie.Need-shared-slice-copy-out-third
-shared-slice-copy-out-third c = search needs
+shared-slice-copy-out-third c = omega arith
 
 add-lay-i32-6 : tie.Need-add-lay-i32-6
-add-lay-i32-6 c = search needs
+add-lay-i32-6 c = omega arith
 
 add-lay-i32-7 : tie.Need-add-lay-i32-7
-add-lay-i32-7 c = search needs
+add-lay-i32-7 c = omega arith
 
 lay-i32-requires-4 : tie.Need-lay-i32-requires-4
-lay-i32-requires-4 c κs = search needs
+lay-i32-requires-4 c κs = omega arith
 
 add-u16-at : tie.Need-add-u16-at
-add-u16-at c = search needs
+add-u16-at c = omega arith
 
 u16-at-requires : tie.Need-u16-at-requires
-u16-at-requires c κs = search needs
+u16-at-requires c κs = omega arith
 
 lay-head-requires : tie.Need-lay-head-requires
-lay-head-requires c κs = search needs
+lay-head-requires c κs = omega arith
 
 add-lay-u8 : tie.Need-add-lay-u8
-add-lay-u8 c = search needs
+add-lay-u8 c = omega arith
 
 shared-slice-read-lay-u8 : tie.Need-shared-slice-read-lay-u8
-shared-slice-read-lay-u8 c = search needs
+shared-slice-read-lay-u8 c = omega arith
 
 lay-u8-requires : tie.Need-lay-u8-requires
-lay-u8-requires c κs = search needs
+lay-u8-requires c κs = omega arith
 
 same-length : tie.Need-same-length
 same-length c = search needs

@@ -50,7 +50,7 @@ refusal-requires-2 : tie.Need-refusal-requires-2
 refusal-requires-2 c κs = search needs
 
 same-length : tie.Need-same-length
-same-length c = search needs
+same-length c = c .before .before .before .before .before .take-units .kept .1 .1 .1 .1 .0
 
 returns-2 : tie.Need-returns-2
 unfolding next blockAfter
@@ -71,7 +71,7 @@ counted-requires : tie.Need-counted-requires
 counted-requires c κs = search needs
 
 same-length-2 : tie.Need-same-length-2
-same-length-2 c = search needs
+same-length-2 c = c .before .before .before .before .before .before .before .take-units .kept .1 .1 .1 .1 .0
 
 returns-3 : tie.Need-returns-3
 unfolding next blockAfter

@@ -25,10 +25,10 @@ write-third-requires c κs =
     (w, length-take-le _ _ (few w))
 
 same-length : tie.Need-same-length
-same-length c = search needs
+same-length c = c .before .before .before .before .before .write-third .kept .1 .1 .1 .0
 
 same-length-2 : tie.Need-same-length-2
-same-length-2 c = search needs
+same-length-2 c = c .before .before .before .before .before .write-third .kept .1 .1 .1 .1 .0
 
 returns : tie.Need-returns
 returns c = search needs

@@ -41,13 +41,13 @@ lay-group-result-requires c κs =
     (w .passed .long, omega (arith, laid .lay-unit-results .kept, w .enough))
 
 same-length : tie.Need-same-length
-same-length c = search needs
+same-length c = c .before .before .lay-group-result .kept .0 ∙ c .before .before .before .before .before .before .before .lay-unit-results .kept .0
 
 same-length-2 : tie.Need-same-length-2
-same-length-2 c = search needs
+same-length-2 c = c .before .before .before .before .before .before .before .before .before .before .before .before .before .before .step3-all .kept .1 .1 .1 .1 .1 .1 .0
 
 same-length-3 : tie.Need-same-length-3
-same-length-3 c = search needs
+same-length-3 c = c .before .before .before .before .before .before .before .before .before .before .before .before .before .before .step3-all .kept .1 .1 .1 .1 .1 .0
 
 returns : tie.Need-returns
 returns c =
