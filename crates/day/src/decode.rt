@@ -111,7 +111,7 @@ pub fn units_into(
         };
     }
     Units {
-        p,
+        p: Position(0),
         end: units_from(s, GroupRecord::LEN, n0.len(), run, limit),
     }
 }
