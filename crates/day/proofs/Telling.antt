@@ -34,7 +34,7 @@ use Rattle.day.specs.declared.offer.Step.{Step}
 use Rattle.day.specs.Days.{counted}
 use Rattle.day.specs.Offers.{blockTaken}
 use Rattle.day.specs.Checking.{blockOf, blockUnitsOf, blockFieldsOf}
-use Rattle.day.specs.Inner.{Begun, Passed, Decoded, Amounts, unitsAt, UnitsRead, UnitsPassed, UnitsTold, BlockTold, unitsTaken, blockAfter, Taking}
+use Rattle.day.specs.Inner.{Begun, Passed, Decoded, Amounts, unitsAt, UnitsRead, UnitsTold, BlockTold, unitsTaken, blockAfter, Taking}
 use Rattle.day.proofs.Units.{amounts-passed}
 
 -- the columns that were read are looked at as the units themselves
@@ -58,6 +58,12 @@ module _ {s : List ℕ} {p : ℤ} {class taken : List ℕ} {n0 down up : List �
 
   pub unlooked : ((i : ℕ) → i < blockCount s → Amounts s i) → amountsPass n0 down up ≡ true
   unlooked all = amounts-only n0 down up (λ i l. entry i (omega (arith, start-count)) ∙ all i (omega (arith, start-count)))
+
+-- units read with a look at all: they pass, or one of them does not
+pub record UnitsPassed (s : List ℕ) (run limit : ℕ) (r : Reading) (class taken : List ℕ) (n0 down up : List ℤ) : Type 0 where
+  pub decoded : r .whole ≡ true → Decoded s (r .p .0) class taken n0 down up
+  pub ends : r .whole ≡ true → unitsAt s run limit ≡ is (r .end)
+  pub fails : r .whole ≡ false → (end : ℕ) → unitsAt s run limit ≡ is end → ⊥
 
 module _ {s : List ℕ} {run limit : ℕ} {r : Reading} {class taken : List ℕ} {n0 down up : List ℤ} (b : Begun s) (u : UnitsRead s run limit r class taken n0 down up) where
   -- the reading was broken off, or came to its end and all pass, or not

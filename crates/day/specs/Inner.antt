@@ -73,12 +73,6 @@ pub record UnitsRead (s : List ℕ) (run limit : ℕ) (r : Reading) (class taken
   pub ends : r .whole ≡ true → ((i : ℕ) → i < blockCount s → Amounts s i) → unitsAt s run limit ≡ is (r .end)
   pub fails : r .whole ≡ false → (end : ℕ) → unitsAt s run limit ≡ is end → ⊥
 
--- units read with a look at all: they pass, or one of them does not
-pub record UnitsPassed (s : List ℕ) (run limit : ℕ) (r : Reading) (class taken : List ℕ) (n0 down up : List ℤ) : Type 0 where
-  pub decoded : r .whole ≡ true → Decoded s (r .p .0) class taken n0 down up
-  pub ends : r .whole ≡ true → unitsAt s run limit ≡ is (r .end)
-  pub fails : r .whole ≡ false → (end : ℕ) → unitsAt s run limit ≡ is end → ⊥
-
 -- the units of a block, and their columns where they pass
 pub record UnitsTold (s : List ℕ) (run limit : ℕ) (r : Units) (class taken : List ℕ) (n0 down up : List ℤ) : Type 0 where
   pub replied : answer (r .end) ≡ unitsAt s run limit
