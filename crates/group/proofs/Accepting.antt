@@ -57,10 +57,9 @@ unit-sound class n0 pc m e =
 pub position-within : (g : Group) → Accepted g → Within 64000000 (position g)
 position-within g a = sum64-within (g .pc) (omega (arith, a .level .positions, a .few)) (λ i. a .sound i .pc-small)
 
--- such a group, with two columns as long as it
-pub judged-by : (g : Group) {first second : List ℤ} → Accepted g → length first ≡ units g → length second ≡ units g
-    → Judged (position g) (g .n0) (g .stepDown) (g .stepUp) (g .class) first second
-judged-by g a firsts seconds =
+-- such a group, with a column as long as it
+pub judged-by : (g : Group) {first : List ℤ} → Accepted g → length first ≡ units g → Judged (position g) (g .n0) (g .stepDown) (g .stepUp) (g .class) first
+judged-by g a firsts =
     record {
       few = a .few;
       downs = a .level .downs;
@@ -68,7 +67,6 @@ judged-by g a firsts seconds =
       classes = a .level .classes;
       known = λ i. a .sound i .known;
       firsts = firsts;
-      seconds = seconds;
       position-small = position-within g a;
       n0-small = λ i. a .sound i .n0-small;
       down-small = λ i. a .sound i .down-small;
@@ -135,10 +133,10 @@ module _ (g : Group) (first second third : List ℤ) {n : ℕ} (lengths-one : on
           )
           nothing-sound
 
-  pub judged-of : Judged (position g) (g .n0) (g .stepDown) (g .stepUp) (g .class) first second × (length third ≡ units g)
+  pub judged-of : Judged (position g) (g .n0) (g .stepDown) (g .stepUp) (g .class) first × ((length second ≡ units g) × (length third ≡ units g))
   judged-of =
       let v = even g first second third lengths-one in
-      (judged-by g accepted-by (v .firsts) (v .seconds), v .thirds)
+      (judged-by g accepted-by (v .firsts), (v .seconds, v .thirds))
 
 pub accepted : (g : Group) (first second third : List ℤ) {sums : Sums} → judgeOf g first second third ≡ is sums → Accepted g
 unfolding judgeOf
@@ -150,4 +148,4 @@ accepted g first second third e =
 
 -- n1 of such a group is a column that can be cut, and bears its excess
 pub bearable-of : (g : Group) → Accepted g → Bearable (excess g) (n1 g) (g .class)
-bearable-of g a = n1-bearable (judged-by g {first = g .n0} {second = g .n0} a refl refl)
+bearable-of g a = n1-bearable (judged-by g {first = g .n0} a refl)

@@ -1,15 +1,17 @@
--- The reasons that a loop writes beside step 3 are those of the column of step 3; and a lent column of zeros tells of no implicit nomination.
-use Prim.Native.Nat.{ℕ, zero, suc, _≤_}
-use mathlib.Core.Path.{_≡_, sym, ap, _∙_}
+-- The reasons that a loop writes beside step 3 are those of the column of step 3; and what is lent of an array of zeros is a column of them.
+use Prim.Native.Nat.{ℕ, zero, suc, _≤_, _<_}
+use mathlib.Core.Path.{_≡_, refl, sym, ap, _∙_}
 use mathlib.Core.List.{List}
 use native.Mathlib.Omega.{arith}
+use native.Mathlib.Decide.{decLt}
 use lib.IntN.{ℤ, pos}
-use lib.ListN.{length, getD, take, replicate}
+use lib.ListN.{length, getD, take, replicate, length-replicate}
+use lib.Seq.{length-take-le}
 use Rattle.numbers.specs.Column.{column, at}
-use Rattle.numbers.proofs.Columns.{column-at, column-ext}
+use Rattle.numbers.proofs.Columns.{column-at, column-past, column-ext, is-column}
 use Rattle.group.specs.Steps.{reasonOf}
 use Rattle.group.specs.Group.{marginsAt, step3All, reasonsAll}
-use Rattle.group.specs.Inner.{Explained}
+use Rattle.group.specs.Inner.{zeros, Explained}
 use Rattle.group.proofs.Ranges.{thirdAt}
 
 -- the reason of the unit of an index
@@ -30,8 +32,21 @@ module _ {taken : List ℕ} {n0 n1 n2 stepDown stepUp : List ℤ} (h : Explained
       (length n0)
       (λ i l. ap (λ (z : ℤ). reasonOf (getD taken i 0) (at n0 i) (at n1 i) (at n2 i) z (marginsAt stepDown stepUp i)) (sym (ap (λ (x : List ℤ). at x i) third ∙ column-at (thirdAt n2 stepDown stepUp) (length n2) i (pos 0) (omega arith))))
 
-pub untold : (n k i : ℕ) → getD (take n (replicate k 0)) i 0 ≤ 1
-untold zero k i = omega arith
-untold (suc n) zero i = omega arith
-untold (suc n) (suc k) zero = omega arith
+-- a lent column of zeros
+untold : (n k i : ℕ) → _≡_ {A = ℕ} (getD (take n (replicate k 0)) i 0) 0
+untold zero k i = refl
+untold (suc n) zero i = refl
+untold (suc n) (suc k) zero = refl
 untold (suc n) (suc k) (suc i) = untold n k i
+
+pub zeros-taken : (n k : ℕ) → n ≤ k → take n (replicate k 0) ≡ zeros n
+zeros-taken n k l =
+    let z : ℕ = 0 in
+    is-column (λ _. z) z n (take n (replicate k z)) (length-take-le n (replicate k z) (rw (length-replicate k z) l)) (λ i _. untold n k i)
+
+pub zeros-small : (n i : ℕ) → getD (zeros n) i 0 ≤ 1
+zeros-small n i = go (decLt i n)
+  where
+    go : Dec (i < n) → getD (zeros n) i 0 ≤ 1
+    go (yes l) = omega (arith, column-at {X = ℕ} (λ (_ : ℕ). 0) n i 0 l)
+    go (no l) = omega (arith, column-past {X = ℕ} (λ (_ : ℕ). 0) n i 0 (omega arith))

@@ -1,12 +1,11 @@
 -- The column of what every unit loses: a quantity for each unit, and taken off n1 it leaves step 2.
 use Prim.Native.Nat.{ℕ, _≤_, _<_}
 use mathlib.Core.Path.{_≡_, ap}
-use mathlib.Core.List.{List, _++_}
+use mathlib.Core.List.{List}
 use native.Mathlib.Omega.{arith}
 use native.Mathlib.Decide.{decLt}
 use lib.IntN.{ℤ}
-use lib.ListN.{length, getD, take, drop, replicate, length-append}
-use lib.Seq.{take-at}
+use lib.ListN.{length, getD}
 use Rattle.numbers.specs.Column.{column, at}
 use Rattle.numbers.proofs.Integers.{zarith}
 use Rattle.numbers.proofs.Columns.{column-length, column-at, column-past, column-ext}
@@ -41,14 +40,3 @@ module _ (e : ℤ) (n1 : List ℤ) (class : List ℕ) where
 
   pub lost : {n2 : List ℤ} → Bearable e n1 class → length n2 ≡ length n1 → Lost n1 (lossesOf e n1 class) n2
   lost h l = record { small = h .classed .small; losses-places = losses-length; losses-small = losses-small h; places = l }
-
--- the first n of 64 places, lent to be written and lent again to be read
-abbrev places : List ℕ
-places = replicate 64 0
-
-module _ {n : ℕ} (l : List ℕ) (written : length l ≡ n) where
-  pub room : n ≤ length (l ++ drop n places)
-  room = omega (arith, length-append l (drop n places))
-
-  pub lent-again : take n (l ++ drop n places) ≡ l
-  lent-again = take-at l (drop n places) n written

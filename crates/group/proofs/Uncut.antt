@@ -1,21 +1,20 @@
--- Where there is no excess no unit loses anything, so step 2 leaves every unit as it is.
+-- Where there is no excess no unit loses anything.
 use Prim.Native.Nat.{ℕ, _-_, _<_, min}
-use mathlib.Core.Path.{_≡_, sym, ap, _∙_}
+use mathlib.Core.Path.{_≡_, ap, _∙_}
 use mathlib.Core.List.{List}
 use native.Mathlib.Omega.{arith}
 use native.Mathlib.Decide.{decLt}
-use lib.IntN.{ℤ, pos, _-ℤ_}
+use lib.IntN.{ℤ, pos}
 use lib.ListN.{length, getD}
-use Rattle.numbers.specs.Column.{column, at}
+use Rattle.numbers.specs.Column.{column}
 use Rattle.numbers.specs.Sum.{sum}
-use Rattle.numbers.proofs.Integers.{zarith, minus}
-use Rattle.numbers.proofs.Columns.{column-at, column-past, column-ext, column-self}
+use Rattle.numbers.proofs.Columns.{column-at, column-past, column-ext}
 use Rattle.terms.specs.declared.quantity.Standing.the-variants.{NotEnabled, Enabled}
 use Rattle.quota.specs.Quota.{cutAt, cutsOf}
 use Rattle.quota.proofs.Fairness.{nothing}
 use Rattle.group.specs.Steps.{directionOf}
-use Rattle.group.specs.Group.{sizesOf, shareOf, cutsFor, takenOff, step2All}
-use Rattle.group.specs.Inner.{lossAt}
+use Rattle.group.specs.Group.{sizesOf, shareOf, cutsFor}
+use Rattle.group.specs.Inner.{lossAt, lossesOf, zeros}
 
 pub none-at : (sizes : List ℕ) (i : ℕ) → getD (cutsOf sizes 0) i 0 ≡ 0
 unfolding cutsOf
@@ -37,10 +36,7 @@ module _ (n1 : List ℤ) (class : List ℕ) where
       let q : getD (cutsFor (pos 0) Enabled n1 class) i 0 ≡ 0 = ap (λ x. getD (cutsOf second x) i 0) k ∙ none-at second i in
       omega arith
 
-  -- so step 2 leaves every unit as it is
-  pub uncut : step2All (pos 0) n1 class ≡ n1
-  unfolding step2All takenOff
-  uncut =
-      column-ext (λ i. at n1 i -ℤ pos (lossAt (pos 0) n1 class i)) (at n1) (length n1)
-      (λ i _. rw (loss-none i) (omega (zarith, minus (at n1 i) (pos 0))))
-      ∙ sym (column-self (pos 0) n1)
+  -- so the column of losses is one of zeros
+  pub losses-none : lossesOf (pos 0) n1 class ≡ zeros (length n1)
+  unfolding lossesOf
+  losses-none = column-ext (lossAt (pos 0) n1 class) (λ _. 0) (length n1) (λ i _. loss-none i)

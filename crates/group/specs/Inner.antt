@@ -61,6 +61,10 @@ lossesOf e n1 class = column (length n1) (lossAt e n1 class)
 unfoldable pub leftBy : Direction → List ℤ → List ℕ → List ℤ
 leftBy d n1 losses = column (length n1) λ i. nearerBy d (at n1 i) (getD losses i 0)
 
+-- a column of so many zeros: nobody loses anything, and no nomination is implicit
+abbrev pub zeros : ℕ → List ℕ
+zeros n = column n λ _. 0
+
 -- an excess that the units of its direction can bear
 pub record Bearable (e : ℤ) (n1 : List ℤ) (class : List ℕ) : Type 0 where
   pub classed : Classed n1 class
@@ -73,24 +77,23 @@ pub record Lost (n1 : List ℤ) (losses : List ℕ) (n2 : List ℤ) : Type 0 whe
   pub losses-small : (i : ℕ) → getD losses i 0 ≤ 1000000
   pub places : length n2 ≡ length n1
 
--- a group of position p that was not refused, with two columns for steps 1 and 2
-pub record Judged (p : ℤ) (n0 stepDown stepUp : List ℤ) (class : List ℕ) (first second : List ℤ) : Type 0 where
+-- a group of position p that was not refused, with a column for step 1
+pub record Judged (p : ℤ) (n0 stepDown stepUp : List ℤ) (class : List ℕ) (first : List ℤ) : Type 0 where
   pub few : length n0 ≤ 64
   pub downs : length stepDown ≡ length n0
   pub ups : length stepUp ≡ length n0
   pub classes : length class ≡ length n0
   pub known : (i : ℕ) → knownClass (getD class i 0) ≡ true
   pub firsts : length first ≡ length n0
-  pub seconds : length second ≡ length n0
   pub position-small : Within 64000000 p
   pub n0-small : AllWithin 1000000 n0
   pub down-small : AllWithin 1000000 stepDown
   pub up-small : AllWithin 1000000 stepUp
 
--- what steps 1 and 2 leave of it
-pub record CutOff (p : ℤ) (n0 stepDown stepUp : List ℤ) (class : List ℕ) (cut : Cut) (x1 x2 : List ℤ) : Type 0 where
+-- what step 1 leaves of it, and what each unit loses in step 2
+pub record CutOff (p : ℤ) (n0 stepDown stepUp : List ℤ) (class : List ℕ) (cut : Cut) (x1 : List ℤ) (losses : List ℕ) : Type 0 where
   pub clamped : x1 ≡ step1All n0 stepDown stepUp
-  pub left : x2 ≡ step2All (excessOf (bandOf p) (sumZ x1)) x1 class
+  pub lost : losses ≡ lossesOf (excessOf (bandOf p) (sumZ x1)) x1 class
   pub band : cut .band ≡ bandOf p
   pub sum : cut .s1 ≡ sumZ x1
   pub excess : cut .e ≡ excessOf (bandOf p) (sumZ x1)

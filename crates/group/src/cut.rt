@@ -5,8 +5,8 @@ ghost use Prim.Native.Nat.{ℕ};
 ghost use lib.ListN.{length, getD};
 ghost use Rattle.numbers.specs.Column.{column, at};
 ghost use Rattle.numbers.specs.Sum.{sum};
-ghost use Rattle.group.specs.Group.{sizeOf, sizesOf, step2All};
-ghost use Rattle.group.specs.Inner.{lossOf, lossesOf, leftBy, Classed, SharedOut, Lost, Bearable};
+ghost use Rattle.group.specs.Group.{sizeOf, sizesOf};
+ghost use Rattle.group.specs.Inner.{lossOf, lossesOf, leftBy, zeros, Classed, SharedOut, Lost, Bearable};
 use crate::band::direction;
 use crate::unit::nearer;
 use numbers::signed::magnitude;
@@ -100,8 +100,18 @@ fn losses_into(e: i32, n1: &[i32], class: &[u8], losses: &mut [u32])
     }
 }
 
-// Each unit is brought nearer to zero by what it loses.
-fn take_off(d: Direction, n1: &[i32], losses: &[u32], n2: &mut [i32])
+// What each unit loses for the excess e of S1, in a column of zeros; without an excess they stay.
+pub fn losses_all(e: i32, n1: &[i32], class: &[u8], losses: &mut [u32])
+    requires { ⌜ Bearable e (now n1) (now class) × (now losses ≡ zeros (length (now n1))) ⌝ }
+    ensures { λ _. ⌜ now (losses .exit) ≡ lossesOf e (now (n1 .entry)) (now (class .entry)) ⌝ }
+{
+    if e != 0 {
+        losses_into(e, n1, class, losses);
+    }
+}
+
+// Step 2 of every unit: it is brought nearer to zero by what it loses.
+pub fn take_off(d: Direction, n1: &[i32], losses: &[u32], n2: &mut [i32])
     requires { ⌜ Lost (now n1) (now losses) (now n2) ⌝ }
     ensures { λ _. ⌜ now (n2 .exit) ≡ leftBy d (now (n1 .entry)) (now (losses .entry)) ⌝ }
 {
@@ -109,26 +119,5 @@ fn take_off(d: Direction, n1: &[i32], losses: &[u32], n2: &mut [i32])
     while i < n1.len() {
         n2[i] = nearer(d, n1[i], losses[i]);
         i += 1;
-    }
-}
-
-// Step 2 of every unit, where there is an excess e of S1.
-fn cut_off(e: i32, n1: &[i32], class: &[u8], n2: &mut [i32])
-    requires { ⌜ Bearable e (now n1) (now class) × (length (now n2) ≡ length (now n1)) ⌝ }
-    ensures { λ _. ⌜ now (n2 .exit) ≡ step2All e (now (n1 .entry)) (now (class .entry)) ⌝ }
-{
-    let n = n1.len();
-    let mut losses = [0u32; 64];
-    losses_into(e, n1, class, &mut losses[..n]);
-    take_off(direction(e), n1, &losses[..n], n2);
-}
-
-// Step 2 of every unit, for the excess e of S1, in a column that holds n1; without an excess n1 is what stays.
-pub fn step2_all(e: i32, n1: &[i32], class: &[u8], n2: &mut [i32])
-    requires { ⌜ Bearable e (now n1) (now class) × (now n2 ≡ now n1) ⌝ }
-    ensures { λ _. ⌜ now (n2 .exit) ≡ step2All e (now (n1 .entry)) (now (class .entry)) ⌝ }
-{
-    if e != 0 {
-        cut_off(e, n1, class, n2);
     }
 }

@@ -6,12 +6,14 @@ ghost use Rattle.group.specs.Group.{step1All, step3All, reasonsAll};
 ghost use Rattle.numbers.specs.Range.{Within};
 ghost use Rattle.numbers.specs.Sum.{sumZ};
 ghost use Rattle.group.specs.Columns.{asGroup, judgement, sumsBy, lengths, Judges};
-ghost use Rattle.group.specs.Inner.{Aligned, Judged, CutOff, Written, Explained};
+ghost use Rattle.group.specs.Inner.{Aligned, zeros, Judged, CutOff, Written, Explained};
 use crate::band::Band;
 use crate::band::balance;
+use crate::band::direction;
 use crate::band::verdict;
 use crate::check::units;
-use crate::cut::step2_all;
+use crate::cut::losses_all;
+use crate::cut::take_off;
 use crate::unit::reason;
 use crate::unit::step1;
 use crate::unit::step3;
@@ -39,12 +41,11 @@ pub enum Judgement {
     Refused(Refusal),
 }
 
-// Step 1 of every unit, and S1. Until step 2 cuts, n2 is n1.
-fn step1_all(n0: &[i32], step_down: &[i32], step_up: &[i32], n1: &mut [i32], n2: &mut [i32]) -> i32
-    requires { ⌜ Aligned (now n0) (now «step_down») (now «step_up») (now n1) × (length (now n2) ≡ length (now n0)) ⌝ }
+// Step 1 of every unit, and S1.
+fn step1_all(n0: &[i32], step_down: &[i32], step_up: &[i32], n1: &mut [i32]) -> i32
+    requires { ⌜ Aligned (now n0) (now «step_down») (now «step_up») (now n1) ⌝ }
     ensures { λ r. ⌜ (r ≡ sumZ (step1All (now (n0 .entry)) (now («step_down» .entry)) (now («step_up» .entry))))
-        × (now (n1 .exit) ≡ step1All (now (n0 .entry)) (now («step_down» .entry)) (now («step_up» .entry)))
-        × (now (n2 .exit) ≡ step1All (now (n0 .entry)) (now («step_down» .entry)) (now («step_up» .entry))) ⌝ }
+        × (now (n1 .exit) ≡ step1All (now (n0 .entry)) (now («step_down» .entry)) (now («step_up» .entry))) ⌝ }
 {
     let mut s1 = 0;
     let mut i = 0;
@@ -55,21 +56,20 @@ fn step1_all(n0: &[i32], step_down: &[i32], step_up: &[i32], n1: &mut [i32], n2:
         };
         let first = step1(n0[i], m);
         n1[i] = first;
-        n2[i] = first;
         s1 += first;
         i += 1;
     }
     s1
 }
 
-// Where steps 1 and 2 leave a group: its band, S1 and the excess of S1.
+// What step 1 leaves of a group: its band, S1 and the excess of S1.
 pub struct Cut {
     pub band: Band,
     pub s1: i32,
     pub e: i32,
 }
 
-// Steps 1 and 2 of a group of position p that is not refused.
+// Step 1 of a group of position p that is not refused, and what each unit loses in step 2, in a column of zeros.
 pub fn cut_all(
     p: Position,
     n0: &[i32],
@@ -77,44 +77,43 @@ pub fn cut_all(
     step_up: &[i32],
     class: &[u8],
     n1: &mut [i32],
-    n2: &mut [i32],
+    losses: &mut [u32],
 ) -> Cut
-    requires { ⌜ Judged (p .0) (now n0) (now «step_down») (now «step_up») (now class) (now n1) (now n2) ⌝ }
-    ensures { λ r. ⌜ CutOff (p .0) (now (n0 .entry)) (now («step_down» .entry)) (now («step_up» .entry)) (now (class .entry)) r (now (n1 .exit)) (now (n2 .exit)) ⌝ }
+    requires { ⌜ Judged (p .0) (now n0) (now «step_down») (now «step_up») (now class) (now n1) × (now losses ≡ zeros (length (now n0))) ⌝ }
+    ensures { λ r. ⌜ CutOff (p .0) (now (n0 .entry)) (now («step_down» .entry)) (now («step_up» .entry)) (now (class .entry)) r (now (n1 .exit)) (now (losses .exit)) ⌝ }
 {
     let band = Band::of(p);
-    let s1 = step1_all(n0, step_down, step_up, n1, n2);
+    let s1 = step1_all(n0, step_down, step_up, n1);
     let e = band.excess(s1);
-    step2_all(e, n1, class, n2);
+    losses_all(e, n1, class, losses);
     Cut { band, s1, e }
 }
 
-// Step 3 of every unit, and S3; and its reason: the column of reasons tells before by 1 which nominations are implicit.
+// Step 3 of every unit, and S3; and its reason. Each unit's step-down margin gives way to n3, and whether its nomination is implicit, by 1 or 0, to its reason.
 pub fn step3_all(
     n0: &[i32],
     n1: &[i32],
     n2: &[i32],
-    step_down: &[i32],
+    third: &mut [i32],
     step_up: &[i32],
-    n3: &mut [i32],
-    why: &mut [u8],
+    why: &mut [u32],
 ) -> i32
-    requires { ⌜ Aligned (now n2) (now «step_down») (now «step_up») (now n3) × Explained (now why) (now n0) (now n1) (now n2) (now «step_down») (now «step_up») ⌝ }
-    ensures { λ r. ⌜ (r ≡ sumZ (step3All (now (n2 .entry)) (now («step_down» .entry)) (now («step_up» .entry))))
-        × (now (n3 .exit) ≡ step3All (now (n2 .entry)) (now («step_down» .entry)) (now («step_up» .entry)))
-        × (now (why .exit) ≡ reasonsAll (now (why .entry)) (now (n0 .entry)) (now (n1 .entry)) (now (n2 .entry)) (now (n3 .exit)) (now («step_down» .entry)) (now («step_up» .entry))) ⌝ }
+    requires { ⌜ Aligned (now n2) (now third) (now «step_up») (now third) × Explained (now why) (now n0) (now n1) (now n2) (now third) (now «step_up») ⌝ }
+    ensures { λ r. ⌜ (r ≡ sumZ (step3All (now (n2 .entry)) (now (third .entry)) (now («step_up» .entry))))
+        × (now (third .exit) ≡ step3All (now (n2 .entry)) (now (third .entry)) (now («step_up» .entry)))
+        × (now (why .exit) ≡ reasonsAll (now (why .entry)) (now (n0 .entry)) (now (n1 .entry)) (now (n2 .entry)) (now (third .exit)) (now (third .entry)) (now («step_up» .entry))) ⌝ }
 {
     let mut s3 = 0;
     let mut i = 0;
     while i < n2.len() {
         let m = Margins {
-            step_down: step_down[i],
+            step_down: third[i],
             step_up: step_up[i],
         };
-        let third = step3(n2[i], m);
-        n3[i] = third;
-        s3 += third;
-        why[i] = reason(why[i], n0[i], n1[i], n2[i], third, m);
+        let n3 = step3(n2[i], m);
+        third[i] = n3;
+        s3 += n3;
+        why[i] = reason(why[i], n0[i], n1[i], n2[i], n3, m);
         i += 1;
     }
     s3
@@ -136,7 +135,44 @@ pub fn summed(p: Position, cut: Cut, s3: i32) -> Sums
     }
 }
 
-// The three steps of a group of position p that is not refused; its reasons are not asked for.
+// A column as another has it.
+fn copy(from: &[i32], to: &mut [i32])
+    requires { ⌜ length (now to) ≡ length (now from) ⌝ }
+    ensures { λ _. ⌜ now (to .exit) ≡ now (from .entry) ⌝ }
+{
+    let mut i = 0;
+    while i < from.len() {
+        to[i] = from[i];
+        i += 1;
+    }
+}
+
+// The three steps of a group of position p that is not refused, by way of lent columns of zeros for what each unit loses and for its reason.
+fn judged_through(
+    p: Position,
+    n0: &[i32],
+    step_down: &[i32],
+    step_up: &[i32],
+    class: &[u8],
+    n1: &mut [i32],
+    n2: &mut [i32],
+    n3: &mut [i32],
+    losses: &mut [u32],
+    why: &mut [u32],
+) -> Sums
+    requires { ⌜ Judged (p .0) (now n0) (now «step_down») (now «step_up») (now class) (now n1) ⌝ }
+    requires { ⌜ (length (now n2) ≡ length (now n0)) × (length (now n3) ≡ length (now n0)) ⌝ }
+    requires { ⌜ (now losses ≡ zeros (length (now n0))) × (now why ≡ zeros (length (now n0))) ⌝ }
+    ensures { λ r. ⌜ Written (p .0) (now (n0 .entry)) (now («step_down» .entry)) (now («step_up» .entry)) (now (class .entry)) r (now (n1 .exit)) (now (n2 .exit)) (now (n3 .exit)) ⌝ }
+{
+    let cut = cut_all(p, n0, step_down, step_up, class, n1, losses);
+    take_off(direction(cut.e), n1, losses, n2);
+    copy(step_down, n3);
+    let s3 = step3_all(n0, n1, n2, n3, step_up, why);
+    summed(p, cut, s3)
+}
+
+// The same with columns of its own; the reasons are not asked for.
 fn judged(
     p: Position,
     n0: &[i32],
@@ -147,14 +183,25 @@ fn judged(
     n2: &mut [i32],
     n3: &mut [i32],
 ) -> Sums
-    requires { ⌜ Judged (p .0) (now n0) (now «step_down») (now «step_up») (now class) (now n1) (now n2) × (length (now n3) ≡ length (now n0)) ⌝ }
+    requires { ⌜ Judged (p .0) (now n0) (now «step_down») (now «step_up») (now class) (now n1) ⌝ }
+    requires { ⌜ (length (now n2) ≡ length (now n0)) × (length (now n3) ≡ length (now n0)) ⌝ }
     ensures { λ r. ⌜ Written (p .0) (now (n0 .entry)) (now («step_down» .entry)) (now («step_up» .entry)) (now (class .entry)) r (now (n1 .exit)) (now (n2 .exit)) (now (n3 .exit)) ⌝ }
 {
     let n = n0.len();
-    let mut why = [0u8; 64];
-    let cut = cut_all(p, n0, step_down, step_up, class, n1, n2);
-    let s3 = step3_all(n0, n1, n2, step_down, step_up, n3, &mut why[..n]);
-    summed(p, cut, s3)
+    let mut losses = [0u32; 64];
+    let mut why = [0u32; 64];
+    judged_through(
+        p,
+        n0,
+        step_down,
+        step_up,
+        class,
+        n1,
+        n2,
+        n3,
+        &mut losses[..n],
+        &mut why[..n],
+    )
 }
 
 // Whether eight lengths are one.

@@ -66,8 +66,8 @@ pub fn step3(n2: i32, m: Margins) -> i32
     by_sign(n2, high, low)
 }
 
-// What a reason adds to the sum where it holds.
-fn weight(holds: bool, w: u8) -> u8
+// What a reason adds to the sum where it holds. Reasons have 32 bits, as the quantities beside them have, so that a loop over units becomes vectors.
+fn weight(holds: bool, w: u32) -> u32
     ensures { λ r. ⌜ (r ≡ pick holds w 0) × (r ≤ w) ⌝ }
 {
     if holds {
@@ -96,7 +96,7 @@ fn zero_outside(n3: i32, m: Margins) -> bool
 }
 
 // A unit's reason; taken is 1 where its nomination is implicit, and else 0.
-pub fn reason(taken: u8, n0: i32, n1: i32, n2: i32, n3: i32, m: Margins) -> u8
+pub fn reason(taken: u32, n0: i32, n1: i32, n2: i32, n3: i32, m: Margins) -> u32
     requires { ⌜ taken ≤ 1 ⌝ }
     ensures { λ r. ⌜ r ≡ reasonOf taken n0 n1 n2 n3 m ⌝ }
 {
