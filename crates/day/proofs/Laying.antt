@@ -51,6 +51,7 @@ module _ (s why : List ℕ) (n0 x1 x2 x3 : List ℤ) where
             firsts = p .firsts;
             seconds = p .seconds;
             thirds = p .thirds;
+            byte = p .byte i;
             enough = omega (arith, runs.next-fits resultAt (length n0) groupResultLength entry i (g .laid) l, each i);
           }
 

@@ -27,8 +27,8 @@ use Rattle.writers.proofs.Back.{results-back}
 use Rattle.day.specs.Blocks.{groupResult, unitResults, resultIn, blockKey, blockCount, blockGroup, unitResult}
 
 -- what an accepted group is judged by
-judged : (g : Group) → Accepted g → Judged (position g) (g .n0) (g .stepDown) (g .stepUp) (g .class) (g .n0) (g .n0)
-judged g a = judged-by g a refl refl
+judged : (g : Group) → Accepted g → Judged (position g) (g .n0) (g .stepDown) (g .stepUp) (g .class) (g .n0)
+judged g a = judged-by g a refl
 
 module _ (g : Group) (a : Accepted g) where
   group-held : (key : Key) (count : ℕ) → HeldGroupResult (groupResult key count (sumsOf g))

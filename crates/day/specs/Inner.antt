@@ -5,7 +5,7 @@ use mathlib.Core.Bool.{true, false}
 use mathlib.Core.List.{List}
 use lib.Dec.{leb}
 use lib.IntN.{ℤ}
-use lib.ListN.{length}
+use lib.ListN.{length, getD}
 use Rattle.numbers.specs.Bytes.{laidAt}
 use Rattle.numbers.specs.Sum.{sumZ}
 use Rattle.terms.specs.Reply.{Reply, is, refused, need, next}
@@ -99,15 +99,15 @@ pub record Taking (s : List ℕ) (group : GroupRecord) (run limit : ℕ) (entry 
   pub replied : blockReply r ≡ unitsTaken s group run limit (length entry)
   pub room : exit ≡ blockAfter (unitsTaken s group run limit (length entry)) (blockResult s) entry
 
--- a block after steps 1 and 2, and room for its result
-pub record Cutting (s : List ℕ) (p : ℤ) (cut : Cut) (taken : List ℕ) (n0 x1 x2 down up : List ℤ) (room : List ℕ) : Type 0 where
+-- a block after step 1, with what each unit loses in step 2, and room for its result
+pub record Cutting (s : List ℕ) (p : ℤ) (cut : Cut) (taken : List ℕ) (n0 x1 : List ℤ) (losses : List ℕ) (down up : List ℤ) (room : List ℕ) : Type 0 where
   pub passed : Passed s
   pub sold : p ≡ position (blockGroup s)
   pub marks : taken ≡ takenIn s (blockCount s)
   pub starts : n0 ≡ blockGroup s .n0
   pub downs : down ≡ blockGroup s .stepDown
   pub ups : up ≡ blockGroup s .stepUp
-  pub off : CutOff (position (blockGroup s)) (blockGroup s .n0) (blockGroup s .stepDown) (blockGroup s .stepUp) (blockGroup s .class) cut x1 x2
+  pub off : CutOff (position (blockGroup s)) (blockGroup s .n0) (blockGroup s .stepDown) (blockGroup s .stepUp) (blockGroup s .class) cut x1 losses
   pub enough : resultLength (blockCount s) ≤ length room
 
 -- columns of one length, of which unit i has an entry, its record in the block and room for its result
@@ -118,6 +118,7 @@ pub record UnitLaying (s : List ℕ) (here : ℕ) (why : List ℕ) (n0 x1 x2 x3 
   pub firsts : length x1 ≡ length n0
   pub seconds : length x2 ≡ length n0
   pub thirds : length x3 ≡ length n0
+  pub byte : getD why i 0 < 256
   pub enough : to + unitResultLength ≤ length room
 
 -- the same of every unit, of at most 64
@@ -128,6 +129,7 @@ pub record Laying (s : List ℕ) (why : List ℕ) (n0 x1 x2 x3 : List ℤ) (room
   pub firsts : length x1 ≡ length n0
   pub seconds : length x2 ≡ length n0
   pub thirds : length x3 ≡ length n0
+  pub byte : (i : ℕ) → getD why i 0 < 256
   pub enough : resultLength (length n0) ≤ length room
 
 -- the results of the units one after another

@@ -77,7 +77,7 @@ pub fn block_units(
     run: u32,
     limit: u16,
     class: &mut [u8],
-    taken: &mut [u8],
+    taken: &mut [u32],
     n0: &mut [i32],
     step_down: &mut [i32],
     step_up: &mut [i32],
@@ -108,7 +108,7 @@ fn units_checked(s: &[u8], group: GroupRecord, run: u32, limit: u16) -> BlockAns
 {
     let n = group.count as usize;
     let mut class = [0u8; 64];
-    let mut taken = [0u8; 64];
+    let mut taken = [0u32; 64];
     let mut n0 = [0i32; 64];
     let mut step_down = [0i32; 64];
     let mut step_up = [0i32; 64];

@@ -39,7 +39,7 @@ fn read_into(
     run: u32,
     limit: u16,
     class: &mut [u8],
-    taken: &mut [u8],
+    taken: &mut [u32],
     n0: &mut [i32],
     step_down: &mut [i32],
     step_up: &mut [i32],
@@ -66,7 +66,7 @@ fn read_into(
         let down = margins.step_down;
         let up = margins.step_up;
         class[i] = u.class;
-        taken[i] = implicit as u8;
+        taken[i] = implicit as u32;
         n0[i] = n;
         step_down[i] = down;
         step_up[i] = up;
@@ -94,7 +94,7 @@ pub fn units_into(
     run: u32,
     limit: u16,
     class: &mut [u8],
-    taken: &mut [u8],
+    taken: &mut [u32],
     n0: &mut [i32],
     step_down: &mut [i32],
     step_up: &mut [i32],

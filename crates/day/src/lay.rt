@@ -26,7 +26,7 @@ fn lay_unit_result(
     to: usize,
     s: &[u8],
     here: usize,
-    why: &[u8],
+    why: &[u32],
     n0: &[i32],
     n1: &[i32],
     n2: &[i32],
@@ -46,14 +46,14 @@ fn lay_unit_result(
     lay_i32(room, to + UnitResult::N0 + 12, third);
     let number = u16_at(s, here + UnitRecord::NUMBER);
     lay_head(room, to, UnitResult::KIND, number);
-    lay_u8(room, to + UnitResult::REASON, why[i]);
+    lay_u8(room, to + UnitResult::REASON, why[i] as u8);
 }
 
 // The results of the units one after another.
 pub fn lay_unit_results(
     room: &mut [u8],
     s: &[u8],
-    why: &[u8],
+    why: &[u32],
     n0: &[i32],
     n1: &[i32],
     n2: &[i32],

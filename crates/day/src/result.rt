@@ -3,6 +3,7 @@ ghost use mathlib.Core.Path.{_≡_};
 ghost use Prim.Native.Nat.{_≤_};
 ghost use lib.ListN.{length};
 ghost use Rattle.numbers.specs.Bytes.{laidAt};
+ghost use Rattle.group.specs.Inner.{zeros};
 ghost use Rattle.records.specs.Layouts.{groupAt};
 ghost use Rattle.writers.specs.Results.{resultLength};
 ghost use Rattle.day.specs.Blocks.{blockResult, blockCount};
@@ -11,6 +12,8 @@ use crate::check::BlockAnswer;
 use crate::check::block_units;
 use crate::lay::lay_group_result;
 use crate::lay::lay_unit_results;
+use group::band::direction;
+use group::cut::take_off;
 use group::judge::Cut;
 use group::judge::cut_all;
 use group::judge::step3_all;
@@ -20,47 +23,48 @@ use terms::quantity::Position;
 use terms::refusal::Refusal;
 use terms::refusal::Why;
 
-// Step 3, the reasons and the result of a block after steps 1 and 2, by way of a lent column.
-fn write_third(
+// Steps 2 and 3, the reasons and the result of a block after step 1, by way of a lent column.
+fn write_rest(
     s: &[u8],
     p: Position,
     cut: Cut,
     room: &mut [u8],
-    why: &mut [u8],
+    why: &mut [u32],
     n0: &[i32],
     n1: &[i32],
-    n2: &[i32],
-    step_down: &[i32],
+    losses: &[u32],
+    third: &mut [i32],
     step_up: &[i32],
-    n3: &mut [i32],
+    n2: &mut [i32],
 )
-    requires { ⌜ Cutting (now s) (p .0) cut (now why) (now n0) (now n1) (now n2) (now «step_down») (now «step_up») (now room) × (length (now n3) ≡ length (now n0)) ⌝ }
+    requires { ⌜ Cutting (now s) (p .0) cut (now why) (now n0) (now n1) (now losses) (now third) (now «step_up») (now room) × (length (now n2) ≡ length (now n0)) ⌝ }
     ensures { λ _. ⌜ now (room .exit) ≡ laidAt (now (room .entry)) 0 (blockResult (now (s .entry))) ⌝ }
 {
-    let s3 = step3_all(n0, n1, n2, step_down, step_up, n3, why);
-    lay_unit_results(room, s, why, n0, n1, n2, n3);
+    take_off(direction(cut.e), n1, losses, n2);
+    let s3 = step3_all(n0, n1, n2, third, step_up, why);
+    lay_unit_results(room, s, why, n0, n1, n2, third);
     lay_group_result(room, s, summed(p, cut, s3));
 }
 
-// The same with a column of its own, made here, when step 2 needs none any more.
+// The same with a column of its own, made here, when step 2 has worked out what each unit loses and needs no column of its own any more.
 fn write_cut(
     s: &[u8],
     p: Position,
     cut: Cut,
     room: &mut [u8],
-    why: &mut [u8],
+    why: &mut [u32],
     n0: &[i32],
     n1: &[i32],
-    n2: &[i32],
-    step_down: &[i32],
+    losses: &[u32],
+    third: &mut [i32],
     step_up: &[i32],
 )
-    requires { ⌜ Cutting (now s) (p .0) cut (now why) (now n0) (now n1) (now n2) (now «step_down») (now «step_up») (now room) ⌝ }
+    requires { ⌜ Cutting (now s) (p .0) cut (now why) (now n0) (now n1) (now losses) (now third) (now «step_up») (now room) ⌝ }
     ensures { λ _. ⌜ now (room .exit) ≡ laidAt (now (room .entry)) 0 (blockResult (now (s .entry))) ⌝ }
 {
     let n = n0.len();
-    let mut n3 = [0i32; 64];
-    write_third(
+    let mut n2 = [0i32; 64];
+    write_rest(
         s,
         p,
         cut,
@@ -68,33 +72,33 @@ fn write_cut(
         why,
         n0,
         n1,
-        n2,
-        step_down,
+        losses,
+        third,
         step_up,
-        &mut n3[..n],
+        &mut n2[..n],
     );
 }
 
-// Steps 1 and 2 of a block that passed, and then the same, by way of the columns that were read and two that are lent.
+// Step 1 of a block that passed, and then the same, by way of the columns that were read and two that are lent.
 fn write_passed(
     s: &[u8],
     p: Position,
     room: &mut [u8],
     class: &[u8],
-    why: &mut [u8],
+    why: &mut [u32],
     n0: &[i32],
     n1: &mut [i32],
-    n2: &mut [i32],
-    step_down: &[i32],
+    losses: &mut [u32],
+    step_down: &mut [i32],
     step_up: &[i32],
 )
     requires { ⌜ Passed (now s) × Decoded (now s) (p .0) (now class) (now why) (now n0) (now «step_down») (now «step_up») ⌝ }
-    requires { ⌜ (length (now n1) ≡ blockCount (now s)) × (length (now n2) ≡ blockCount (now s)) ⌝ }
+    requires { ⌜ (length (now n1) ≡ blockCount (now s)) × (now losses ≡ zeros (blockCount (now s))) ⌝ }
     requires { ⌜ resultLength (blockCount (now s)) ≤ length (now room) ⌝ }
     ensures { λ _. ⌜ now (room .exit) ≡ laidAt (now (room .entry)) 0 (blockResult (now (s .entry))) ⌝ }
 {
-    let cut = cut_all(p, n0, step_down, step_up, class, n1, n2);
-    write_cut(s, p, cut, room, why, n0, n1, n2, step_down, step_up);
+    let cut = cut_all(p, n0, step_down, step_up, class, n1, losses);
+    write_cut(s, p, cut, room, why, n0, n1, losses, step_down, step_up);
 }
 
 // A block is checked, then the room; then it is judged and its result written, by way of lent columns.
@@ -105,16 +109,16 @@ fn take_through(
     limit: u16,
     room: &mut [u8],
     class: &mut [u8],
-    taken: &mut [u8],
+    taken: &mut [u32],
     n0: &mut [i32],
     n1: &mut [i32],
-    n2: &mut [i32],
+    losses: &mut [u32],
     step_down: &mut [i32],
     step_up: &mut [i32],
 ) -> BlockAnswer
     requires { ⌜ Begun (now s) × (group ≡ groupAt (now s) 0) ⌝ }
     requires { ⌜ UnitRoom (blockCount (now s)) (now class) (now taken) (now n0) (now «step_down») (now «step_up») ⌝ }
-    requires { ⌜ (length (now n1) ≡ blockCount (now s)) × (length (now n2) ≡ blockCount (now s)) ⌝ }
+    requires { ⌜ (length (now n1) ≡ blockCount (now s)) × (now losses ≡ zeros (blockCount (now s))) ⌝ }
     ensures { λ r. ⌜ Taking (now (s .entry)) group run limit (now (room .entry)) r (now (room .exit)) ⌝ }
 {
     let told = block_units(s, group, run, limit, class, taken, n0, step_down, step_up);
@@ -136,14 +140,14 @@ fn take_through(
         taken,
         n0,
         n1,
-        n2,
+        losses,
         step_down,
         step_up,
     );
     BlockAnswer::Is(block)
 }
 
-// The units of a block whose group record passed, and then 12; its result is written at the front of the room. Its columns take 1,408 bytes of stack.
+// The units of a block whose group record passed, and then 12; its result is written at the front of the room. Its columns take 1,600 bytes of stack.
 pub fn take_units(
     s: &[u8],
     group: GroupRecord,
@@ -156,10 +160,10 @@ pub fn take_units(
 {
     let n = group.count as usize;
     let mut class = [0u8; 64];
-    let mut taken = [0u8; 64];
+    let mut taken = [0u32; 64];
     let mut n0 = [0i32; 64];
     let mut n1 = [0i32; 64];
-    let mut n2 = [0i32; 64];
+    let mut losses = [0u32; 64];
     let mut step_down = [0i32; 64];
     let mut step_up = [0i32; 64];
     take_through(
@@ -172,7 +176,7 @@ pub fn take_units(
         &mut taken[..n],
         &mut n0[..n],
         &mut n1[..n],
-        &mut n2[..n],
+        &mut losses[..n],
         &mut step_down[..n],
         &mut step_up[..n],
     )

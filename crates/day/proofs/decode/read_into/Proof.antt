@@ -143,6 +143,14 @@ slice-write-class c =
 cast-taken : tie.Need-cast-taken Inv-loop μ-loop
 cast-taken c = search needs
 
+mul-taken : tie.Need-mul-taken Inv-loop μ-loop
+mul-taken c =
+    let margins = c .before .before .before in
+    let unit = margins .before .before .before .before .before in
+    let test = unit .before .before .before in
+    let v = test .before .loop in
+    omega (arith, below _ _ _ _ _ _ _ _ (v .inv) (test .loop-test .taken), v .inv .begun .few)
+
 slice-write-taken : tie.Need-slice-write-taken Inv-loop μ-loop
 slice-write-taken c =
     let margins = c .before .before .before in
@@ -338,6 +346,7 @@ read-into-spec =
     margins-requires
     slice-write-class
     cast-taken
+    mul-taken
     slice-write-taken
     mul-n
     slice-set-from-n

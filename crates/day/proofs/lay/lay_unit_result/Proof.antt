@@ -86,8 +86,16 @@ lay-head-requires c κs = omega arith
 add-lay-u8 : tie.Need-add-lay-u8
 add-lay-u8 c = omega arith
 
+mul-lay-u8 : tie.Need-mul-lay-u8
+mul-lay-u8 c =
+    let s = c .before .before .before .before .before .before .before .before .before .before .before .before .before .before .before .before .before .before .before .before .before .before .before .before .before .before .before .before .before in
+    omega (arith, s .good, s .pre .below, s .pre .whys)
+
 shared-slice-read-lay-u8 : tie.Need-shared-slice-read-lay-u8
 shared-slice-read-lay-u8 c = omega arith
+
+cast-lay-u8 : tie.Need-cast-lay-u8
+cast-lay-u8 c = omega (arith, c .before .before .before .before .before .before .before .before .before .before .before .before .before .before .before .before .before .before .before .before .before .before .before .before .before .before .before .before .before .before .pre .byte)
 
 lay-u8-requires : tie.Need-lay-u8-requires
 lay-u8-requires c κs = omega arith
@@ -167,7 +175,9 @@ lay-unit-result-spec =
     u16-at-requires
     lay-head-requires
     add-lay-u8
+    mul-lay-u8
     shared-slice-read-lay-u8
+    cast-lay-u8
     lay-u8-requires
     same-length
     returns)

@@ -70,11 +70,11 @@ returns-2 c =
     taking-small _ _ _ _ _ e refl (lt-leb (known .b .given .0 .0 .written) _ (c .if1 .taken))
 
 -- the room is long enough for the block's result
-enough : (c : tie.Else1) → let known = c .before .before .before in let start = known .before .before .before .before .before .before .before .before .before .before .before .before .before .before .before .before .before .before .before in resultLength (blockCount (now (start .args .s))) ≤ length (now (start .args .room))
+enough : (c : tie.Else1) → let known = c .before .before .before in let start = known .before .before .before .before .before .before .before .before .before .before .before .before .before .before .before .before .before .before .before .before in resultLength (blockCount (now (start .args .s))) ≤ length (now (start .args .room))
 enough c =
     let known = c .before .before .before in
     let units = known .before .before .before .before .before .before .before .before .before in
-    let start = units .before .before .before .before .before .before .before .before .before .before in
+    let start = units .before .before .before .before .before .before .before .before .before .before .before in
     let e = rw (known .b .given .1) at (units .block-units .ensures .replied) in
     omega (arith, taken-long _ _ _ _ (now (start .args .room)) e (start .pre .0 .1), c .if1 .left)
 
@@ -83,62 +83,62 @@ write-passed-requires c κs =
     let test = c .before .before .before .before .before .before .before .before in
     let known = test .before .before .before in
     let units = known .before .before .before .before .before .before .before .before .before in
-    let start = units .before .before .before .before .before .before .before .before .before .before in
+    let start = units .before .before .before .before .before .before .before .before .before .before .before in
     let told = units .block-units .ensures in
     let k = ap blockReply (known .b .given .1) in
     ((told .passed _ k, told .decoded _ k), (start .pre .1 .1, enough test))
 
 same-length-11 : tie.Need-same-length-11
-same-length-11 c = c .before .before .before .before .before .before .write-passed .kept .1 .1 .0
+same-length-11 c = c .before .before .before .before .before .before .before .before .write-passed .kept .1 .1 .0
 
 same-length-12 : tie.Need-same-length-12
 same-length-12 c =
-    let wrote = c .before .before .before .before .before .before in
+    let wrote = c .before .before .before .before .before .before .before .before in
     let test = wrote .before .before .before .before .before .before .before .before .before in
     let units = test .before .before .before .before .before .before .before .before .before .before .before .before in
     units .block-units .kept .1 .1 .1 .1 .0
 
 same-length-13 : tie.Need-same-length-13
 same-length-13 c =
-    let wrote = c .before .before .before .before .before .before in
+    let wrote = c .before .before .before .before .before .before .before .before in
     let test = wrote .before .before .before .before .before .before .before .before .before in
     let units = test .before .before .before .before .before .before .before .before .before .before .before .before in
     wrote .write-passed .kept .1 .1 .1 .1 .0 ∙ units .block-units .kept .1 .1 .1 .1 .1 .0
 
 same-length-14 : tie.Need-same-length-14
 same-length-14 c =
-    let wrote = c .before .before .before .before .before .before in
+    let wrote = c .before .before .before .before .before .before .before .before in
     let test = wrote .before .before .before .before .before .before .before .before .before in
     let units = test .before .before .before .before .before .before .before .before .before .before .before .before in
     units .block-units .kept .1 .1 .1 .1 .1 .1 .0
 
 same-length-15 : tie.Need-same-length-15
-same-length-15 c = c .before .before .before .before .before .before .write-passed .kept .1 .1 .1 .1 .1 .1 .0
+same-length-15 c = c .before .before .before .before .before .before .before .before .write-passed .kept .1 .1 .1 .1 .1 .1 .0
 
 same-length-16 : tie.Need-same-length-16
-same-length-16 c = c .before .before .before .before .before .before .write-passed .kept .1 .1 .1 .1 .1 .1 .1 .0
+same-length-16 c = c .before .before .before .before .before .before .before .before .write-passed .kept .1 .1 .1 .1 .1 .1 .1 .0
 
 same-length-17 : tie.Need-same-length-17
 same-length-17 c =
-    let wrote = c .before .before .before .before .before .before in
+    let wrote = c .before .before .before .before .before .before .before .before in
     let test = wrote .before .before .before .before .before .before .before .before .before in
     let units = test .before .before .before .before .before .before .before .before .before .before .before .before in
-    units .block-units .kept .1 .1 .1 .1 .1 .1 .1 .0
+    wrote .write-passed .kept .1 .1 .1 .1 .1 .1 .1 .1 .0 ∙ units .block-units .kept .1 .1 .1 .1 .1 .1 .1 .0
 
 same-length-18 : tie.Need-same-length-18
 same-length-18 c =
-    let wrote = c .before .before .before .before .before .before in
+    let wrote = c .before .before .before .before .before .before .before .before in
     let test = wrote .before .before .before .before .before .before .before .before .before in
     let units = test .before .before .before .before .before .before .before .before .before .before .before .before in
     units .block-units .kept .1 .1 .1 .1 .1 .1 .1 .1 .0
 
 returns-3 : tie.Need-returns-3
 returns-3 c =
-    let wrote = c .before .before .before .before .before .before in
+    let wrote = c .before .before .before .before .before .before .before .before in
     let test = wrote .before .before .before .before .before .before .before .before .before in
     let known = test .before .before .before in
     let units = known .before .before .before .before .before .before .before .before .before in
-    let start = units .before .before .before .before .before .before .before .before .before .before in
+    let start = units .before .before .before .before .before .before .before .before .before .before .before in
     let e = rw (known .b .given .1) at (units .block-units .ensures .replied) in
     let t = le-leb (known .b .given .0 .0 .written) (length (now (start .args .room))) (test .if1 .left) in
     taking-done _ _ _ _ _ e t (wrote .write-passed .ensures)

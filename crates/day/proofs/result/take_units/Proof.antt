@@ -4,6 +4,8 @@ use mathlib.Core.Path.{sym, ap, _∙_}
 use native.Mathlib.Omega.{arith}
 use lib.Seq.{length-take-le}
 use Rattle.terms.specs.Checks.{mostUnits}
+use Rattle.group.specs.Inner.{zeros}
+use Rattle.group.proofs.Explaining.{zeros-taken}
 use Rattle.records.specs.declared.group.GroupRecord.{GroupRecord}
 use borrow.Author.Needs.{needs}
 use Rattle.day.proofs.result.take_units.Statement.{statement}
@@ -42,8 +44,8 @@ array-borrow-prefix-n1 c = few (c .before .before .before .before .before .befor
 slice-aggregate-take-through-4 : tie.Need-slice-aggregate-take-through-4
 slice-aggregate-take-through-4 c = sym (length-take-le _ _ (few (c .before .before .before .before .before .before .before .before)))
 
-array-borrow-prefix-n2 : tie.Need-array-borrow-prefix-n2
-array-borrow-prefix-n2 c = few (c .before .before .before .before .before .before .before .before)
+array-borrow-prefix-losses : tie.Need-array-borrow-prefix-losses
+array-borrow-prefix-losses c = few (c .before .before .before .before .before .before .before .before)
 
 slice-aggregate-take-through-5 : tie.Need-slice-aggregate-take-through-5
 slice-aggregate-take-through-5 c = sym (length-take-le _ _ (few (c .before .before .before .before .before .before .before .before .before)))
@@ -74,7 +76,7 @@ take-through-requires c κs =
           downs = length-take-le _ _ k ∙ n;
           ups = length-take-le _ _ k ∙ n;
         },
-        (length-take-le _ _ k ∙ n, length-take-le _ _ k ∙ n),
+        (length-take-le _ _ k ∙ n, zeros-taken _ 64 k ∙ ap zeros n),
       ),
     )
 
@@ -97,7 +99,7 @@ take-units-spec =
     slice-aggregate-take-through-3
     array-borrow-prefix-n1
     slice-aggregate-take-through-4
-    array-borrow-prefix-n2
+    array-borrow-prefix-losses
     slice-aggregate-take-through-5
     array-borrow-prefix-step-down
     slice-aggregate-take-through-6

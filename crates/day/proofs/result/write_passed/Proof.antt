@@ -1,4 +1,4 @@
--- The columns of a block that passed may go through steps 1 and 2, and what these leave through step 3.
+-- The columns of a block that passed may go through step 1, and what that leaves through steps 2 and 3.
 use Rattle.day.proofs.Passing.{may-cut, cutting}
 use borrow.Author.Needs.{needs}
 use Rattle.day.proofs.result.write_passed.Statement.{statement}
@@ -6,26 +6,33 @@ use Rattle.day.proofs.result.write_passed.Tie as tie
 
 cut-all-requires : tie.Need-cut-all-requires
 cut-all-requires c κs =
-    let start = c .before .before .before .before .before .before in
+    let start = c .before .before .before .before .before .before .before .before in
     may-cut (start .pre .0 .0) (start .pre .0 .1) (start .pre .1 .0 .0) (start .pre .1 .0 .1)
 
 write-cut-requires : tie.Need-write-cut-requires
 write-cut-requires c κs =
-    let cut = c .before .before .before .before .before .before in
-    let start = cut .before .before .before .before .before .before .before in
+    let cut = c .before .before .before .before .before .before .before .before in
+    let start = cut .before .before .before .before .before .before .before .before .before in
     cutting (start .pre .0 .0) (start .pre .0 .1) (cut .cut-all .ensures) (start .pre .1 .1)
 
 same-length : tie.Need-same-length
-same-length c = c .before .before .before .before .write-cut .kept .1 .1 .1 .0
+same-length c = c .before .before .before .before .before .write-cut .kept .1 .1 .1 .0
 
 same-length-2 : tie.Need-same-length-2
-same-length-2 c = c .before .before .before .before .write-cut .kept .1 .1 .1 .1 .0
+same-length-2 c = c .before .before .before .before .before .write-cut .kept .1 .1 .1 .1 .0
 
 same-length-3 : tie.Need-same-length-3
-same-length-3 c = c .before .before .before .before .before .before .before .before .before .before .before .cut-all .kept .1 .1 .1 .1 .1 .0
+same-length-3 c =
+    let wrote = c .before .before .before .before .before in
+    wrote .before .before .before .before .before .before .before .before .before .cut-all .kept .1 .1 .1 .1 .1 .0
 
 same-length-4 : tie.Need-same-length-4
-same-length-4 c = c .before .before .before .before .before .before .before .before .before .before .before .cut-all .kept .1 .1 .1 .1 .1 .1 .0
+same-length-4 c =
+    let wrote = c .before .before .before .before .before in
+    wrote .before .before .before .before .before .before .before .before .before .cut-all .kept .1 .1 .1 .1 .1 .1 .0
+
+same-length-5 : tie.Need-same-length-5
+same-length-5 c = c .before .before .before .before .before .write-cut .kept .1 .1 .1 .1 .1 .1 .1 .1 .0
 
 returns : tie.Need-returns
 returns c = search needs
@@ -40,4 +47,5 @@ write-passed-spec =
     same-length-2
     same-length-3
     same-length-4
+    same-length-5
     returns)
