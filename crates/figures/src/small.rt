@@ -1,4 +1,5 @@
 // "Small figures" of document 01.
+ghost use Prim.Native.Nat.{_≤_};
 use crate::show::HIGH;
 use crate::show::LOW;
 use crate::show::show;
@@ -23,7 +24,9 @@ pub fn margins() {
 }
 
 // A unit that is not nominated, with PC -500.
-fn not_nominated(name: &[u8], coincide: u8) {
+fn not_nominated(name: &[u8], coincide: u8)
+    requires { ⌜ coincide ≤ 1 ⌝ }
+{
     let implicit = is_implicit(0, coincide);
     let n0 = considered(implicit, Nomination(0), Position(-500));
     show(name, implicit, &[n0.0], &[-500], &[LOW], &[HIGH], &[0]);

@@ -4,7 +4,7 @@ use mathlib.Core.Path.{_≡_, refl, sym, _∙_}
 use mathlib.Core.Bool.{Bool, true, false, _&&_, _||_}
 use mathlib.Core.List.{List}
 use native.Mathlib.Omega.{arith}
-use borrow.Author.Tests.{le-leb, eq-eqb}
+use borrow.Author.Tests.{le-leb, leb-true, eq-eqb}
 use lib.Dec.{eqb, leb}
 use lib.IntN.{ℤ, pos, negℤ}
 use lib.ListN.{length}
@@ -42,6 +42,7 @@ fine-is (Faulty fault) e =
 pub record Marked (u : UnitRecord) : Type 0 where
   pub stated : eqb (u .nominated) 1 || eqZ (u .n .0) (pos 0) ≡ true
   pub pc : Within 1000000 (u .pc .0)
+  pub flags : (u .nominated ≤ 1) × (u .coincide ≤ 1)
 
 module _ (u : UnitRecord) (floor run limit : ℕ) where
   parts : marksPass u floor run limit ≡ true → (markFaults u floor ≡ Fine) × ((inRange (u .pc .0) ≡ true) × (aged run (u .made) limit ≡ true))
@@ -59,7 +60,7 @@ module _ (u : UnitRecord) (floor run limit : ℕ) where
       let coincide = passes _ _ _ (class .1) in
       let nominated = passes _ _ _ (coincide .1) in
       let stated = passes _ _ _ (nominated .1) in
-      record { stated = stated .0; pc = range-within _ (p .1 .0) }
+      record { stated = stated .0; pc = range-within _ (p .1 .0); flags = (leb-true _ _ (nominated .0), leb-true _ _ (coincide .0)) }
 
   -- a unit without a fault has these marks
   pub marks-needed : unitFaults u floor run limit ≡ Fine → marksPass u floor run limit ≡ true

@@ -1,5 +1,6 @@
 // Quantities with their signs, and what a class byte says.
 ghost use mathlib.Core.Path.{_≡_};
+ghost use Prim.Native.Nat.{_≤_};
 ghost use lib.IntN.{negℤ};
 ghost use Rattle.numbers.specs.Choice.{pick};
 ghost use Rattle.numbers.specs.Range.{Within};
@@ -90,14 +91,12 @@ impl Direction {
     }
 }
 
-// Whether a nomination is implicit, and taken.
+// Whether a nomination is implicit, and taken: of two flags one comparison tells it, so that a loop over units has no branch.
 pub fn is_implicit(nominated: u8, coincide: u8) -> bool
+    requires { ⌜ (nominated ≤ 1) × (coincide ≤ 1) ⌝ }
     ensures { λ r. ⌜ r ≡ implicit nominated coincide ⌝ }
 {
-    if nominated == 1 {
-        return false;
-    }
-    coincide == 1
+    nominated < coincide
 }
 
 // The nomination that the steps start from: what was sold where it is implicit, and else N, which is 0 where not nominated.

@@ -122,7 +122,9 @@ returns-2 c =
     broken _ _ _ (ap (λ (r : Reading). r .whole) told) (stopped _ _ _ _ _ _ _ _ (v .inv) l (λ u e. absurd (false≢true (sym no ∙ read-marked _ _ _ _ _ e))))
 
 is-implicit-requires : tie.Need-is-implicit-requires Inv-loop μ-loop
-is-implicit-requires c κs = search needs
+is-implicit-requires c κs =
+    let marks = c .before in
+    marked _ _ _ _ (sym (marks .marks-pass .ensures) ∙ not-false _ (c .if2 .left)) .flags
 
 considered-requires : tie.Need-considered-requires Inv-loop μ-loop
 considered-requires c κs =
