@@ -39,7 +39,7 @@ pub fn refused(r: Refusal) {
     place(b" at ", r.place);
 }
 
-fn mark(taken: bool) -> u8
+fn mark(taken: bool) -> u32
     ensures { λ r. ⌜ r ≤ 1 ⌝ }
 {
     if taken { 1 } else { 0 }
@@ -66,7 +66,7 @@ fn reasons(
             step_up: step_up[i],
         };
         let sum = reason(mark(taken), n0[i], n1[i], n2[i], n3[i], margins);
-        named(b" ", sum as i32);
+        named(b" ", (sum % 256) as i32);
         i += 1;
     }
 }
