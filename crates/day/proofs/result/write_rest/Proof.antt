@@ -31,9 +31,15 @@ second-is c =
     let d = c .before .before .direction .ensures ∙ ap directionOf (toZ-ofZ (e-fits (entry c .pre .0))) in
     c .take-off .ensures ∙ ap (λ (x : Direction). leftBy x (now (a .n1)) (now (a .losses))) d
 
--- and what stood before step 3
+-- and what stood before step 3, and before the units were laid
 abbrev off : tie.After-step3-all → tie.After-take-off
 off c = c .before .before .before .before .before
+
+abbrev third-of : tie.After-lay-unit-results → tie.After-step3-all
+third-of c = c .before .before .before .before .before .before .before .before
+
+abbrev laid-of : tie.After-slice-known5 → tie.After-lay-unit-results
+laid-of c = c .before .before .before .before .before .before .before
 
 step3-all-requires : tie.Need-step3-all-requires
 step3-all-requires c κs =
@@ -50,7 +56,7 @@ lay-unit-results-requires c κs =
 summed-requires : tie.Need-summed-requires
 summed-requires c κs =
     let laid = c .before .before .before in
-    let third = laid .before .before .before .before .before .before .before .before in
+    let third = third-of laid in
     let e = third .step3-all .ensures in
     let s3 : toZ w32 (ofZ w32 (third .step3-all .result)) ≡ third .step3-all .result = search needs in
     summable (entry (off third) .pre .0) (second-is (off third)) (s3 ∙ e .0) (e .1)
@@ -58,36 +64,35 @@ summed-requires c κs =
 lay-group-result-requires : tie.Need-lay-group-result-requires
 lay-group-result-requires c κs =
     let laid = c .before .before .before .before in
-    let third = laid .before .before .before .before .before .before .before .before in
+    let third = third-of laid in
     let w = entry (off third) .pre .0 in
     (w .passed .long, omega (arith, laid .lay-unit-results .kept, w .enough))
 
 same-length : tie.Need-same-length
 same-length c =
-    let group = c .before .before in
-    group .lay-group-result .kept .0 ∙ group .before .before .before .before .before .lay-unit-results .kept .0
+    c .before .before .lay-group-result .kept .0 ∙ laid-of c .lay-unit-results .kept .0
 
 same-length-2 : tie.Need-same-length-2
 same-length-2 c =
-    let third = c .before .before .before .before .before .before .before .before .before .before .before .before .before .before .before in
+    let third = third-of (laid-of c) in
     third .step3-all .kept .1 .1 .1 .1 .1 .0
 
 same-length-3 : tie.Need-same-length-3
 same-length-3 c =
-    let third = c .before .before .before .before .before .before .before .before .before .before .before .before .before .before .before in
+    let third = third-of (laid-of c) in
     third .step3-all .kept .1 .1 .1 .0
 
 same-length-4 : tie.Need-same-length-4
 same-length-4 c =
-    let third = c .before .before .before .before .before .before .before .before .before .before .before .before .before .before .before in
+    let third = third-of (laid-of c) in
     off third .take-off .kept .1 .1 .1 .0
 
 returns : tie.Need-returns
 returns c =
     let group = c .before .before in
     let sums = group .before in
-    let laid = group .before .before .before .before .before in
-    let third = laid .before .before .before .before .before .before .before .before in
+    let laid = laid-of c in
+    let third = third-of laid in
     let e = third .step3-all .ensures in
     let s3 : toZ w32 (ofZ w32 (third .step3-all .result)) ≡ third .step3-all .result = search needs in
     written (entry (off third) .pre .0) (second-is (off third)) (s3 ∙ e .0) (e .1) (e .2) (sums .summed .ensures) (laid .lay-unit-results .ensures) (group .lay-group-result .ensures)
