@@ -12,7 +12,6 @@ use crate::laying::short;
 use crate::steps::HIGHEST;
 use crate::steps::number_of;
 use crate::steps::state_of;
-use day::check::Block;
 use day::check::BlockAnswer;
 use day::check::check_block;
 use day::offer::Offered;
@@ -97,9 +96,14 @@ fn lay_day(reply: &mut [u8; LONGEST], at: usize, day: Day) -> usize {
     lay_last(reply, seen, last)
 }
 
+// The answer that so many bytes were used, and so many written.
+fn lay_lengths(reply: &mut [u8; LONGEST], used: usize, written: usize) -> usize {
+    lay_accepted(reply, &[short(used), short(written)])
+}
+
 fn lay_taken(reply: &mut [u8; LONGEST], s: Step) -> usize {
     let day = s.day;
-    let at = lay_accepted(reply, &[short(s.used), short(s.written)]);
+    let at = lay_lengths(reply, s.used, s.written);
     lay_day(reply, at, day)
 }
 
@@ -125,10 +129,6 @@ pub fn offered(body: &[u8], room: &mut [u8], reply: &mut [u8; LONGEST]) -> usize
     lay_offered(reply, o)
 }
 
-fn lay_block(reply: &mut [u8; LONGEST], b: Block) -> usize {
-    lay_accepted(reply, &[short(b.used), short(b.written)])
-}
-
 pub fn checked(body: &[u8], reply: &mut [u8; LONGEST]) -> usize {
     if body.len() < 21 {
         return 0;
@@ -137,7 +137,7 @@ pub fn checked(body: &[u8], reply: &mut [u8; LONGEST]) -> usize {
         return 0;
     }
     match check_block(day_at(body), &body[21..]) {
-        BlockAnswer::Is(block) => lay_block(reply, block),
+        BlockAnswer::Is(block) => lay_lengths(reply, block.used, block.written),
         BlockAnswer::Refused(r) => lay_refusal(reply, 0, r),
     }
 }

@@ -31,15 +31,16 @@ fn lay_judgement(reply: &mut [u8; LONGEST], j: Judgement) -> usize {
     }
 }
 
-fn lay_judged(
-    reply: &mut [u8; LONGEST],
-    j: Judgement,
-    n1: &[i32],
-    n2: &[i32],
-    n3: &[i32],
-) -> usize {
-    let first = lay_judgement(reply, j);
-    let second = lay_signed(reply, first, n1);
+// Nothing is laid for a body that does not fit.
+fn lay_judged(reply: &mut [u8; LONGEST], j: Judged) -> usize {
+    match j {
+        Judged::Unfit => 0,
+        Judged::Is(judgement) => lay_judgement(reply, judgement),
+    }
+}
+
+fn lay_columns(reply: &mut [u8; LONGEST], at: usize, n1: &[i32], n2: &[i32], n3: &[i32]) -> usize {
+    let second = lay_signed(reply, at, n1);
     let third = lay_signed(reply, second, n2);
     lay_signed(reply, third, n3)
 }
@@ -51,10 +52,11 @@ fn answered(
     n3: &mut [i32],
     reply: &mut [u8; LONGEST],
 ) -> usize {
-    match hand_over(body, n1, n2, n3) {
-        Judged::Unfit => 0,
-        Judged::Is(j) => lay_judged(reply, j, n1, n2, n3),
+    let at = lay_judged(reply, hand_over(body, n1, n2, n3));
+    if at == 0 {
+        return 0;
     }
+    lay_columns(reply, at, n1, n2, n3)
 }
 
 fn filled() -> [i32; ONE] {

@@ -6,6 +6,6 @@ mod turns;
 fn main() {
     let mut chunk = io::large_buffer();
     let mut line = input::blank();
-    let mut room = turns::blank();
-    outcome::tell(turns::make(&mut chunk, &mut line, &mut room));
+    let mut output = io::large_buffer();
+    outcome::tell(turns::make(&mut chunk, &mut line, &mut output));
 }

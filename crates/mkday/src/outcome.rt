@@ -11,10 +11,10 @@ pub enum Outcome {
     Unwritten,
 }
 
-// Writes the first bytes of the room, and tells whether it could.
-pub fn written(room: &[u8], bytes: usize) -> bool {
-    let length = least(bytes, room.len());
-    io::write_all(STDOUT_FILENO, &room[..length])
+// Writes the first bytes of the output, and tells whether it could.
+pub fn written(output: &[u8], bytes: usize) -> bool {
+    let length = least(bytes, output.len());
+    io::write_all(STDOUT_FILENO, &output[..length])
 }
 
 fn tell_refusal(number: u8, line: u64) {

@@ -1,4 +1,6 @@
-// The lines of a day, each handed on to its making, and what is made written.
+// The lines of a day, each handed on to its making, and what is made written, many records and blocks at a time.
+ghost use Prim.Native.Nat.{_≤_};
+ghost use lib.ListN.{length};
 use crate::input::Input;
 use crate::input::Took;
 use crate::input::least;
@@ -10,13 +12,9 @@ use text::making::Made;
 use text::making::Making;
 use text::making::ROOM;
 
-pub fn blank() -> [u8; ROOM] {
-    [0; ROOM]
-}
-
-// Where the reading and the making stand, or how the run ended.
+// Where the reading and the making stand, and how many bytes of the output wait to be written; or how the run ended.
 enum Step {
-    On(Input, Making),
+    On(Input, Making, usize),
     Stopped(Outcome),
 }
 
@@ -24,62 +22,100 @@ impl Step {
     // The outcome of a step that stopped: `let .. else` does not bind it.
     fn outcome(self) -> Outcome {
         match self {
-            Step::On(_, _) => Outcome::Whole,
+            Step::On(_, _, _) => Outcome::Whole,
             Step::Stopped(o) => o,
         }
     }
 }
 
-// A record or a block, the first bytes of the room.
-fn write(input: Input, making: Making, room: &[u8], bytes: usize) -> Step {
-    if !written(room, bytes) {
+// What waits is written, and only then is it told how the run ended.
+fn stop(outcome: Outcome, output: &[u8], full: usize) -> Step {
+    if !written(output, full) {
         return Step::Stopped(Outcome::Unwritten);
     }
-    Step::On(input, making)
+    Step::Stopped(outcome)
+}
+
+// A record or a block was made: it waits with those before it as long as the longest block fits behind them.
+fn keep(input: Input, making: Making, output: &[u8], full: usize) -> Step
+    requires { ⌜ full ≤ length (now output) ⌝ }
+{
+    if ROOM <= output.len() - full {
+        return Step::On(input, making, full);
+    }
+    if !written(output, full) {
+        return Step::Stopped(Outcome::Unwritten);
+    }
+    Step::On(input, making, 0)
+}
+
+// What a line makes in the room.
+fn made_in(room: &mut [u8], input: Input, making: Making, line: &[u8]) -> Made {
+    let length = least(input.length, line.len());
+    let l = line_in(&line[..length]);
+    making.turn(l, input.lines, room)
+}
+
+// What was made, behind the bytes that wait.
+fn follow(input: Input, made: Made, output: &[u8], full: usize) -> Step
+    requires { ⌜ full ≤ length (now output) ⌝ }
+{
+    match made {
+        Made::On(next) => Step::On(input, next, full),
+        Made::Whole(next, bytes) => {
+            let end = full + least(bytes, output.len() - full);
+            keep(input, next, output, end)
+        }
+        Made::Refused(number, line) => stop(Outcome::Refused(number, line), output, full),
+    }
 }
 
 // A line that was read.
-fn line_turn(input: Input, making: Making, line: &[u8], room: &mut [u8]) -> Step {
-    let length = least(input.length, line.len());
-    let l = line_in(&line[..length]);
-    let made = making.turn(l, input.lines, room);
-    match made {
-        Made::On(next) => Step::On(input, next),
-        Made::Whole(next, bytes) => write(input, next, room, bytes),
-        Made::Refused(number, at) => Step::Stopped(Outcome::Refused(number, at)),
-    }
+fn line_turn(input: Input, making: Making, line: &[u8], output: &mut [u8], full: usize) -> Step {
+    let at = least(full, output.len());
+    let made = made_in(&mut output[at..], input, making, line);
+    follow(input, made, output, at)
 }
 
-// The end of the text: 1 at the line after the last, unless it may end there.
-fn end_turn(input: Input, making: Making) -> Step {
+// How a text ends: 1 at the line after the last, unless it may end there.
+fn ending(input: Input, making: Making) -> Outcome {
     if making.is_over() {
-        return Step::Stopped(Outcome::Whole);
+        return Outcome::Whole;
     }
-    Step::Stopped(Outcome::Refused(1, std::num::wrapping_add_u64(input.lines, 1)))
+    Outcome::Refused(1, std::num::wrapping_add_u64(input.lines, 1))
 }
 
 // The next line, or the end.
-fn turn(from: Input, making: Making, chunk: &mut [u8], line: &mut [u8], room: &mut [u8]) -> Step {
+fn turn(
+    from: Input,
+    making: Making,
+    full: usize,
+    chunk: &mut [u8],
+    line: &mut [u8],
+    output: &mut [u8],
+) -> Step {
     let took = next_line(from, chunk, line);
     match took {
-        Took::Line(input) => line_turn(input, making, line, room),
-        Took::Ended(input) => end_turn(input, making),
-        _ => Step::Stopped(Outcome::Unread),
+        Took::Line(input) => line_turn(input, making, line, output, full),
+        Took::Ended(input) => stop(ending(input, making), output, full),
+        _ => stop(Outcome::Unread, output, full),
     }
 }
 
 // The whole text. The turns are counted down, as those of a line.
-pub fn make(chunk: &mut [u8], line: &mut [u8], room: &mut [u8]) -> Outcome {
+pub fn make(chunk: &mut [u8], line: &mut [u8], output: &mut [u8]) -> Outcome {
     let mut input = Input::new();
     let mut making = Making::new();
+    let mut full = 0;
     let mut left = u64::MAX;
     while 0 < left {
-        let s = turn(input, making, chunk, line, room);
-        let Step::On(i, m) = s else {
+        let s = turn(input, making, full, chunk, line, output);
+        let Step::On(i, m, f) = s else {
             return s.outcome();
         };
         input = i;
         making = m;
+        full = f;
         left -= 1;
     }
     Outcome::Unread

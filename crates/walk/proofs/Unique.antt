@@ -1,4 +1,4 @@
--- The contracts of `head_in`, of `next`, `step` and `walk_at` leave one answer each: two answers with one reply are one, by cases. The other contracts of the crate are equations of the result itself.
+-- The contracts of `head_in`, of `next`, `step`, `walk_at`, `next_turn` and `move_on` leave one answer each: two answers with one reply are one, by cases. The other contracts of the crate are equations of the result itself.
 use Prim.Native.Nat.{ℕ}
 use mathlib.Core.Path.{_≡_, refl, sym, ap, _∙_}
 use native.Mathlib.Omega.{arith}
@@ -9,7 +9,10 @@ use Rattle.walk.specs.declared.table.Head.{Head}
 use Rattle.walk.specs.declared.table.HeadAnswer.{HeadAnswer}
 use Rattle.walk.specs.declared.step.Step.{Step}
 use Rattle.walk.specs.Walk.{Found}
+use Rattle.walk.specs.declared.stand.Turn.{Turn}
+use Rattle.walk.specs.declared.walker.Moved.{Moved}
 use Rattle.walk.specs.Answers.{headReply, stepReply}
+use Rattle.walk.specs.Stands.{Turned, turnReply, Moving, movedReply}
 use Rattle.walk.specs.declared.table.HeadAnswer.the-variants as H
 use Rattle.walk.specs.declared.step.Step.the-variants as S
 
@@ -39,3 +42,15 @@ step-same S.Done S.Done e = refl
 
 pub step-unique : {r : Reply Found} (x y : Step) → stepReply x ≡ r → stepReply y ≡ r → x ≡ y
 step-unique x y p q = step-same x y (p ∙ sym q)
+
+pub turn-unique : {t : Turned} (x y : Turn) → turnReply x ≡ t → turnReply y ≡ t → x ≡ y
+turn-unique x y p q =
+    let reply : x .reply ≡ y .reply = step-unique (x .reply) (y .reply) (ap (λ t. t .reply) p) (ap (λ t. t .reply) q) in
+    let stand = ap (λ t. t .stand) (p ∙ sym q) in
+    λ i. record { state = stand i .state; place = stand i .place; reply = reply i }
+
+pub move-unique : {m : Moving} (x y : Moved) → movedReply x ≡ m → movedReply y ≡ m → x ≡ y
+move-unique x y p q =
+    let reply : x .reply ≡ y .reply = step-unique (x .reply) (y .reply) (ap (λ m. m .reply) p) (ap (λ m. m .reply) q) in
+    let walker = ap (λ m. m .walker) (p ∙ sym q) in
+    λ i. record { bytes = walker i .bytes; state = walker i .state; place = walker i .place; reply = reply i }

@@ -25,15 +25,15 @@ pub enum Role {
 // The kinds that the table has a column for; no record of a higher kind may come.
 const KINDS: usize = 16;
 
-// A record's body is what comes after its byte of kind.
-const DAY: usize = DayRecord::LEN - 1;
+// A record's body is what comes after its byte of kind. Its length is kept in a byte: the table is laid out at each look, and bytes take the fewest stores.
+const DAY: u8 = (DayRecord::LEN - 1) as u8;
 
-const GROUP: usize = GroupRecord::LEN - 1;
+const GROUP: u8 = (GroupRecord::LEN - 1) as u8;
 
-const END: usize = EndRecord::LEN - 1;
+const END: u8 = (EndRecord::LEN - 1) as u8;
 
 // A row for each state: the length of the body, and 0 where the record may not come.
-const BODIES: [[usize; 16]; 3] = [
+const BODIES: [[u8; 16]; 3] = [
     [0, DAY, 0, 0, 0, 0, 0, 0, 0, 0, 0, 0, 0, 0, 0, 0],
     [0, 0, GROUP, 0, 0, 0, 0, 0, 0, 0, 0, 0, 0, 0, 0, END],
     [0, 0, 0, 0, 0, 0, 0, 0, 0, 0, 0, 0, 0, 0, 0, 0],
@@ -105,7 +105,7 @@ impl State {
             return 0;
         }
         let row = self.row();
-        BODIES[row][k]
+        BODIES[row][k] as usize
     }
 }
 

@@ -1,4 +1,4 @@
--- The turns left fall, and the chunk, the line and the room keep their lengths.
+-- The turns left fall, and the chunk, the line and the output keep their lengths.
 use mathlib.Core.Path.{_≡_}
 use lib.ListN.{length}
 use borrow.Author.Needs.{needs}
@@ -6,10 +6,10 @@ use Rattle.mkday.proofs.turns.make.Statement.{statement}
 use Rattle.mkday.proofs.turns.make.Tie as tie
 
 abbrev Inv-loop : tie.InvT-loop
-Inv-loop chunk₀ line₀ room₀ input₀ making₀ left₀ chunk line room input making left = (length chunk ≡ length chunk₀) × ((length line ≡ length line₀) × (length room ≡ length room₀))
+Inv-loop chunk₀ line₀ output₀ input₀ making₀ full₀ left₀ chunk line output input making full left = (length chunk ≡ length chunk₀) × ((length line ≡ length line₀) × (length output ≡ length output₀))
 
 abbrev μ-loop : tie.MeasureT-loop
-μ-loop chunk₀ line₀ room₀ input₀ making₀ left₀ chunk line room input making left = left
+μ-loop chunk₀ line₀ output₀ input₀ making₀ full₀ left₀ chunk line output input making full left = left
 
 new-requires : tie.Need-new-requires Inv-loop μ-loop
 new-requires c κs = search needs

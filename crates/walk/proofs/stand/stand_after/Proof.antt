@@ -6,6 +6,9 @@ use Rattle.walk.proofs.stand.stand_after.Tie as tie
 enum-known-reply : tie.Need-enum-known-reply
 enum-known-reply c = search needs
 
+stand-past-requires : tie.Need-stand-past-requires
+stand-past-requires c κs = search needs
+
 enum-told : tie.Need-enum-told
 enum-told c = search needs
 
@@ -13,7 +16,7 @@ enum-told-2 : tie.Need-enum-told-2
 enum-told-2 c = search needs
 
 returns : tie.Need-returns
-returns c = rw (c .before .reply .given .1)
+returns c = rw (c .stand-past .ensures, c .before .before .reply .given .1)
 
 returns-2 : tie.Need-returns-2
 returns-2 c = search needs
@@ -23,4 +26,12 @@ returns-3 c = search needs
 
 pub stand-after-spec : {M : Type 1} → statement M
 stand-after-spec =
-    tie.close (tie.spec enum-known-reply enum-told enum-told-2 returns returns-2 returns-3)
+    tie.close
+    (tie.spec
+    enum-known-reply
+    stand-past-requires
+    enum-told
+    enum-told-2
+    returns
+    returns-2
+    returns-3)
