@@ -21,7 +21,9 @@ use Rattle.records.specs.declared.day.DayRecord.{DayRecord}
 use Rattle.records.specs.declared.group.GroupRecord.{GroupRecord}
 use Rattle.records.specs.declared.unit.UnitRecord.{UnitRecord}
 use Rattle.records.specs.declared.key.Last.{Last}
-use Rattle.records.specs.Layouts.{groupKind, groupLength, groupMade, groupAt, unitKind, unitLength, unitBytes}
+use Rattle.records.specs.Layouts.{groupKind, groupLength, groupMade, groupAt, unitBytes, lengthOf}
+use Rattle.records.specs.Inner.{isWhole}
+use Rattle.records.proofs.UnitHeads.{read-whole}
 use Rattle.records.specs.Reading.{aged, permitted, groupFieldsOf, groupOf, valueFaults, unitFaults, unitOf, unitsOf, placeFrom, unitPlace, unitIn}
 use Rattle.records.proofs.Accepted.{unit-is, block-end}
 use Rattle.records.proofs.Checks.{also-fine}
@@ -43,7 +45,7 @@ floorIn s (suc i) = unitIn s i .number + 1
 
 -- a unit that the reader passed
 record Read (s : List ℕ) (i : ℕ) : Type 0 where
-  pub head : Headed s (unitPlace s i) unitKind unitLength
+  pub whole : isWhole s (unitPlace s i) ≡ true
   pub fine : valueFaults (unitIn s i) (floorIn s i) ≡ Fine
 
 module _ (s : List ℕ) (run limit : ℕ) where
@@ -51,7 +53,7 @@ module _ (s : List ℕ) (run limit : ℕ) where
   unfolding unitOf unitFaults
   read-one i e =
       let p = unit-is s (unitPlace s i) (floorIn s i) run limit e in
-      record { head = headed s (unitPlace s i) unitKind unitLength (next-is _ _ e .1 .0); fine = also-fine _ _ (p .0) .0 }
+      record { whole = read-whole s (unitPlace s i) (next-is _ _ e .1 .0); fine = also-fine _ _ (p .0) .0 }
 
   read-all : (i left : ℕ) {n : ℕ} → unitsOf s (unitPlace s i) (floorIn s i) run limit left ≡ is n → (j : ℕ) → i ≤ j → j < i + left → Read s j
   unfolding unitsOf placeFrom floorIn
@@ -78,10 +80,11 @@ module _ (s : List ℕ) (units : ℕ) where
   floor-in zero h = refl
   floor-in (suc i) h = rw (row-in i (omega arith))
 
-  end-in : (i : ℕ) → unitsEnd (columnsIn s units) i ≡ unitPlace s i
+  end-in : (i : ℕ) → i ≤ units → unitsEnd (columnsIn s units) i ≡ unitPlace s i
   unfolding unitsEnd placeFrom
-  end-in zero = refl
-  end-in (suc i) = omega (arith, end-in i)
+  end-in zero h = refl
+  end-in (suc i) h =
+      ap (λ (at : ℕ). at + lengthOf (rowOf (columnsIn s units) i)) (end-in i (omega arith)) ∙ ap (λ (u : UnitRecord). unitPlace s i + lengthOf u) (row-in i h)
 
   even-in : even (columnsIn s units) ≡ true
   unfolding even same
@@ -134,7 +137,7 @@ module _ (s : List ℕ) (small : Bytes s) (day : DayRecord) (last : Last) (g : G
 
   -- where they end is the block's length
   ends : n ≡ blockLength values
-  ends = block-end s (day .run) (day .«margin_limit») (g .count) (group-is s day last group .head .long) units ∙ rw (counted, end-in s (g .count))
+  ends = block-end s (day .run) (day .«margin_limit») (g .count) (group-is s day last group .head .long) units ∙ rw (counted, end-in s (g .count) (g .count) (omega arith))
 
   -- the writer takes the values
   takes : (room : ℕ) → n ≤ room → writeBlockOf (g .quarter) values room ≡ is n
@@ -154,7 +157,7 @@ module _ (s : List ℕ) (small : Bytes s) (day : DayRecord) (last : Last) (g : G
   unit-again : (i : ℕ) → i < g .count
       → unitBytes (rowOf values i) ≡ take (length (unitBytes (rowOf values i))) (drop (groupLength + length (unitsBytes values i)) s)
   unit-again i h =
-      rw (length-unit (rowOf values i), length-units values i, end-in s (g .count) i, row-in s (g .count) i h) (unit-laid s small (unitPlace s i) (reads i h .head))
+      rw (length-unit (rowOf values i), length-units values i, end-in s (g .count) i (omega arith), row-in s (g .count) i h) (unit-laid s small (unitPlace s i) (reads i h .whole))
 
   lays : blockBytes g values ≡ take n s
   unfolding blockBytes unitsBytes
