@@ -17,20 +17,21 @@ use Rattle.terms.proofs.Replies.{need-is, next-is}
 use Rattle.records.specs.declared.group.GroupRecord.{GroupRecord}
 use Rattle.records.specs.declared.unit.UnitRecord.{UnitRecord}
 use Rattle.records.specs.declared.key.Key.{Key}
-use Rattle.records.specs.Layouts.{dayLength, groupLength, marginsOf, endLength}
-use Rattle.records.specs.Reading.{unitPlace, keyOf, groupFieldsOf, unitsOf, unitIn}
+use Rattle.records.specs.Layouts.{groupLength, marginsOf, endLength}
+use Rattle.records.specs.Reading.{dayEnd, unitPlace, keyOf, groupFieldsOf, unitsOf, unitIn}
 use Rattle.records.specs.Decoding.{unitN0, unitImplicit}
 use Rattle.records.proofs.Alike.{Agree, agree, group-same, day-kept, group-kept, end-kept, units-kept, units-same, units-alike}
 use Rattle.records.specs.Longest.{longestBlock}
 use Rattle.records.proofs.Accepted.{units-accepted}
 use Rattle.records.proofs.Places.{place-up, place-from}
 use Rattle.records.proofs.Fields.{past}
+use Rattle.records.proofs.Read.{day-short, group-passed}
 use Rattle.walk.specs.declared.table.Role.{Role}
 use Rattle.walk.specs.declared.table.Role.the-variants as R
 use Rattle.walk.specs.declared.table.Head.{Head}
-use Rattle.walk.specs.Table.{roleOf, isBlock, headAt, headIn, lengthAs}
+use Rattle.walk.specs.Table.{roleOf, isBlock, headAt, headIn}
 use Rattle.walk.proofs.Bodies.{body-short}
-use Rattle.walk.proofs.Coming.{is-block}
+use Rattle.walk.proofs.Coming.{is-block, lengthIn}
 use Rattle.day.specs.declared.value.Day.{Day}
 use Rattle.day.specs.declared.check.Block.{Block}
 use Rattle.day.specs.declared.offer.Step.{Step}
@@ -40,7 +41,6 @@ use Rattle.day.specs.Blocks.{resultIn, blockKey, blockCount, blockResult
 use Rattle.day.specs.Offers.{headFor, dayTaken, blockTaken, endTaken, taken, offerOf, writtenOf}
 use Rattle.day.proofs.ByKind.{head-came}
 use Rattle.day.proofs.Outcomes.{taken-block}
-use Rattle.day.proofs.Read.{group-passed}
 
 -- past a reading that was not refused, the whole is what comes after it
 onward : {A B : Type 0} (x : Reply A) (rest : A → Reply B) {a : A} {b : B} → x ≡ is a → rest a ≡ is b → next x rest ≡ is b
@@ -49,13 +49,13 @@ onward x rest e r = rw e r
 
 module _ (s t : List ℕ) (n : ℕ) (a : Agree s t n) where
   -- what is taken, by its kind
-  opens-kept : dayLength ≤ n → dayTaken t ≡ dayTaken s
+  opens-kept : (end : ℕ) → dayEnd s ≤ n → dayTaken t end ≡ dayTaken s end
   unfolding dayTaken
-  opens-kept h = rw (day-kept s t n a h)
+  opens-kept end h = rw (day-kept s t n a h)
 
-  closes-kept : (day : Day) → endLength ≤ n → endTaken day t ≡ endTaken day s
+  closes-kept : (day : Day) (end : ℕ) → endLength ≤ n → endTaken day t end ≡ endTaken day s end
   unfolding endTaken
-  closes-kept day h = rw (end-kept s t n a (day .groups) h)
+  closes-kept day end h = rw (end-kept s t n a (day .groups) h)
 
   fields-kept : (day : Day) {block : Block} → groupLength ≤ n → block .used ≤ n → blockFieldsOf day s ≡ is block → blockFieldsOf day t ≡ is block
   unfolding blockFieldsOf
@@ -113,10 +113,10 @@ module _ (s t : List ℕ) (n : ℕ) (a : Agree s t n) where
       unfolding blockTaken
       block-alike day room = rw (fields-alike day)
 
-      taken-alike : (day : Day) (room : ℕ) (role : Role) → taken day t room role ≡ taken day s room role
-      taken-alike day room R.Opens = opens-kept (omega arith)
-      taken-alike day room R.Block = block-alike day room
-      taken-alike day room R.Closes = closes-kept day (omega arith)
+      taken-alike : (day : Day) (room : ℕ) (role : Role) (end : ℕ) → taken day t room role end ≡ taken day s room role end
+      taken-alike day room R.Opens end = opens-kept end (omega (arith, day-short s))
+      taken-alike day room R.Block end = block-alike day room
+      taken-alike day room R.Closes end = closes-kept day end (omega arith)
 
       head-alike : (day : Day) → headFor day t ≡ headFor day s
       unfolding headFor headIn need
@@ -130,8 +130,8 @@ module _ (s t : List ℕ) (n : ℕ) (a : Agree s t n) where
       unfolding offerOf next
       offer-alike day room = rw (head-alike day) (go (headFor day s))
         where
-          go : (x : Reply Head) → next x (λ head. taken day t room (head .role)) ≡ next x (λ head. taken day s room (head .role))
-          go (is head) = taken-alike day room (head .role)
+          go : (x : Reply Head) → next x (λ head. taken day t room (head .role) (head .end)) ≡ next x (λ head. taken day s room (head .role) (head .end))
+          go (is head) = taken-alike day room (head .role) (head .end)
           go (refused number place) = refl
 
 -- what is used has its first record, and lies in the bytes
@@ -150,21 +150,13 @@ fields-lie day s {block} h e =
     record { from = omega (arith, k .ends, place-from s groupLength (a .0 .count)); inside = omega (arith, k .within) }
 
 module _ (day : Day) (s : List ℕ) (room : ℕ) {step : Step} where
-  day-lies : dayLength ≤ length s → dayTaken s ≡ is step → Lies dayLength (step .used) (length s)
+  day-lies : (end : ℕ) → dayTaken s end ≡ is step → end ≡ step .used
   unfolding dayTaken
-  day-lies h e =
-      let a = next-is _ _ e in
-      let v : step ≡ record { used = dayLength; written = 0; day = opened (a .0) } = cc (a .1 .1) in
-      let u = ap (λ (x : Step). x .used) v in
-      record { from = omega arith; inside = omega arith }
+  day-lies end e = let v : record { used = end; written = 0; day = opened (next-is _ _ e .0) } ≡ step = cc (next-is _ _ e .1 .1) in ap (λ (x : Step). x .used) v
 
-  end-lies : endLength ≤ length s → endTaken day s ≡ is step → Lies endLength (step .used) (length s)
+  end-lies : (end : ℕ) → endTaken day s end ≡ is step → end ≡ step .used
   unfolding endTaken
-  end-lies h e =
-      let a = next-is _ _ e in
-      let v : step ≡ record { used = endLength; written = 0; day = closed day } = cc (a .1 .1) in
-      let u = ap (λ (x : Step). x .used) v in
-      record { from = omega arith; inside = omega arith }
+  end-lies end e = let v : record { used = end; written = 0; day = closed day } ≡ step = cc (next-is _ _ e .1 .1) in ap (λ (x : Step). x .used) v
 
   block-lies : groupLength ≤ length s → blockTaken day s room ≡ is step → Lies groupLength (step .used) (length s)
   unfolding blockTaken
@@ -175,18 +167,19 @@ module _ (day : Day) (s : List ℕ) (room : ℕ) {step : Step} where
       let l = fields-lie day s h (a .1 .0) in
       record { from = omega (arith, l .from); inside = omega (arith, l .inside) }
 
-  taken-lies : (role : Role) → lengthAs role ≤ length s → taken day s room role ≡ is step → Lies (lengthAs role) (step .used) (length s)
-  taken-lies R.Opens h x = day-lies h x
-  taken-lies R.Block h x = block-lies h x
-  taken-lies R.Closes h x = end-lies h x
+  taken-lies : (role : Role) (end : ℕ) → end ≡ lengthIn role s 0 → end ≤ length s → taken day s room role end ≡ is step → Lies end (step .used) (length s)
+  taken-lies R.Opens end q h x = record { from = omega (arith, day-lies end x); inside = omega (arith, day-lies end x) }
+  taken-lies R.Block end q h x = rw q (block-lies (omega arith) x)
+  taken-lies R.Closes end q h x = record { from = omega (arith, end-lies end x); inside = omega (arith, end-lies end x) }
 
-  taken-kept : (t : List ℕ) → Agree s t (step .used) → (role : Role) → lengthAs role ≤ step .used → taken day s room role ≡ is step → taken day t room role ≡ is step
-  taken-kept t a R.Opens h x = opens-kept s t _ a h ∙ x
-  taken-kept t a R.Block h x = block-kept s t _ a day room h (omega arith) x
-  taken-kept t a R.Closes h x = closes-kept s t _ a day h ∙ x
+  taken-kept : (t : List ℕ) → Agree s t (step .used) → (role : Role) (end : ℕ) → lengthIn role s 0 ≤ step .used → taken day s room role end ≡ is step
+      → taken day t room role end ≡ is step
+  taken-kept t a R.Opens end h x = opens-kept s t _ a end h ∙ x
+  taken-kept t a R.Block end h x = block-kept s t _ a day room h (omega arith) x
+  taken-kept t a R.Closes end h x = closes-kept s t _ a day end h ∙ x
 
 module _ (day : Day) (s : List ℕ) (room : ℕ) {step : Step} (e : offerOf day s room ≡ is step) where
-  head-taken : (head : Head) × ((headFor day s ≡ is head) × (taken day s room (head .role) ≡ is step))
+  head-taken : (head : Head) × ((headFor day s ≡ is head) × (taken day s room (head .role) (head .end) ≡ is step))
   unfolding offerOf
   head-taken = next-is _ _ e
 
@@ -194,9 +187,8 @@ module _ (day : Day) (s : List ℕ) (room : ℕ) {step : Step} (e : offerOf day 
   offer-lies =
       let x = head-taken in
       let m = head-came day s (x .0) (x .1 .0) in
-      let n = m .end in
-      let l = taken-lies day s room (x .0 .role) (omega (arith, m .long)) (x .1 .1) in
-      record { from = omega (arith, l .from); inside = l .inside }
+      let n : x .0 .end ≡ lengthIn (x .0 .role) s 0 = omega (arith, m .end) in
+      taken-lies day s room (x .0 .role) (x .0 .end) n (m .long) (x .1 .1)
 
   some : 0 < step .used
   some =
@@ -210,7 +202,7 @@ module _ (day : Day) (s : List ℕ) (room : ℕ) {step : Step} (e : offerOf day 
         let x = head-taken in
         let n = head-came day s (x .0) (x .1 .0) .end in
         onward _ _ (head-kept s t _ a day (offer-lies .from) (x .1 .0))
-        (taken-kept day s room t a (x .0 .role) (omega (arith, offer-lies .from)) (x .1 .1))
+        (taken-kept day s room t a (x .0 .role) (x .0 .end) (omega (arith, offer-lies .from)) (x .1 .1))
 
     written-kept : writtenOf t ≡ writtenOf s
     written-kept = rw (a .same 0 some) (go (isBlock (roleOf (byteAt s 0))) refl)

@@ -1,7 +1,6 @@
 -- Every reply of an offer is one that an answer gives: each refusal in it has a reason's number, through every definition that it is made of.
 use Prim.Native.Nat.{ℕ}
 use mathlib.Core.List.{List}
-use Rattle.terms.specs.Refusals.{refusal}
 use Rattle.terms.specs.declared.refusal.Why.the-variants as W
 use Rattle.records.proofs.Sayable.{Sayable, value, say-need, say-next, say-day, say-group, say-end, say-units}
 use Rattle.walk.specs.declared.table.State.{State}
@@ -26,23 +25,23 @@ module _ (s : List ℕ) where
     unfolding blockFieldsOf
     block-fields = say-next (say-group s _ _) (λ g. say-next (say-units s _ _ _ _ _) (λ end. value _))
 
-    day-taken : Sayable (dayTaken s)
+    day-taken : (end : ℕ) → Sayable (dayTaken s end)
     unfolding dayTaken
-    day-taken = say-next (say-day s) (λ d. value _)
+    day-taken end = say-next (say-day s) (λ d. value _)
 
     block-taken : (room : ℕ) → Sayable (blockTaken day s room)
     unfolding blockTaken
     block-taken room = say-next block-fields (λ b. say-need _ W.Room _ (value _))
 
-    end-taken : Sayable (endTaken day s)
+    end-taken : (end : ℕ) → Sayable (endTaken day s end)
     unfolding endTaken
-    end-taken = say-next (say-end s _) (λ e. value _)
+    end-taken end = say-next (say-end s _) (λ e. value _)
 
-    by-role : (room : ℕ) (role : Role) → Sayable (taken day s room role)
-    by-role room Opens = day-taken
-    by-role room Block = block-taken room
-    by-role room Closes = end-taken
+    by-role : (room : ℕ) (role : Role) (end : ℕ) → Sayable (taken day s room role end)
+    by-role room Opens end = day-taken end
+    by-role room Block end = block-taken room
+    by-role room Closes end = end-taken end
 
     pub offer-sayable : (room : ℕ) → Sayable (offerOf day s room)
     unfolding offerOf
-    offer-sayable room = say-next head-for (λ h. by-role room (h .role))
+    offer-sayable room = say-next head-for (λ h. by-role room (h .role) (h .end))

@@ -12,12 +12,12 @@ use Rattle.records.specs.declared.day.DayRecord.{DayRecord}
 use Rattle.records.specs.declared.unit.UnitRecord.{UnitRecord}
 use Rattle.records.specs.declared.key.Last.{Last}
 use Rattle.records.specs.Layouts.{Width, u8, u16, u32, i32, Field, size, valueOf, valueAt}
-use Rattle.records.specs.Layouts.{dayLength, dayDay, dayQuarters, dayRun, dayPositionLimit, dayMarginLimit, dayAt}
+use Rattle.records.specs.Layouts.{dayDay, dayQuarters, dayRun, dayPositionLimit, dayMarginLimit, dayAt}
 use Rattle.records.specs.Layouts.{groupLength, groupBrp, groupZone, groupQuarter, groupCount, groupMade, groupAt}
 use Rattle.records.specs.Layouts.{unitNumber, unitClass, unitCoincide, unitNominated, unitN, unitPc, unitStepDown, unitStepUp, unitMade, unitAt, lengthOf}
 use Rattle.records.specs.Layouts.{endLength, endGroups, endAt}
 use Rattle.records.specs.Longest.{longestUnit}
-use Rattle.records.specs.Reading.{dayFieldsOf, groupFieldsOf, endFieldsOf, unitHeadOf, unitEnd, placeFrom, unitFieldsOf, unitOf, unitsOf}
+use Rattle.records.specs.Reading.{dayEnd, dayFieldsOf, groupFieldsOf, endFieldsOf, unitHeadOf, unitEnd, placeFrom, unitFieldsOf, unitOf, unitsOf}
 use Rattle.records.proofs.Accepted.{units-accepted}
 use Rattle.records.proofs.Places.{place-from}
 use Rattle.records.proofs.UnitHeads.{unit-past, unit-most, unit-long, read-end, unit-moved, heads-alike}
@@ -48,7 +48,7 @@ module _ (s t : List ℕ) (n : ℕ) (a : Agree s t n) where
   field-same at f h = value-same (f .width) (at + f .place) h
 
   -- ---- the records at the front
-  pub day-same : dayLength ≤ n → dayAt t 0 ≡ dayAt s 0
+  day-same : dayEnd s ≤ n → dayAt t 0 ≡ dayAt s 0
   unfolding dayAt
   day-same h =
       rw (field-same 0 dayDay (omega arith), field-same 0 dayQuarters (omega arith), field-same 0 dayRun (omega arith), field-same 0 dayPositionLimit (omega arith), field-same 0 dayMarginLimit (omega arith))
@@ -62,7 +62,7 @@ module _ (s t : List ℕ) (n : ℕ) (a : Agree s t n) where
   unfolding endAt
   end-same h = rw (field-same 0 endGroups (omega arith))
 
-  pub day-kept : dayLength ≤ n → dayFieldsOf t ≡ dayFieldsOf s
+  pub day-kept : dayEnd s ≤ n → dayFieldsOf t ≡ dayFieldsOf s
   unfolding dayFieldsOf
   day-kept h = rw (day-same h)
 

@@ -2,7 +2,7 @@
 ghost use mathlib.Core.Path.{_≡_};
 ghost use Prim.Native.Nat.{_≤_};
 ghost use lib.ListN.{length};
-ghost use Rattle.records.specs.Layouts.{unitAt, lengthOf, marginsOf};
+ghost use Rattle.records.specs.Layouts.{unitWith, unitAt, lengthOf, marginsOf};
 ghost use Rattle.records.specs.Reading.{faultPlace, unitEnd};
 use numbers::bytes::i32_at;
 use numbers::bytes::u16_at;
@@ -61,7 +61,7 @@ impl UnitRecord {
         step_up: i32,
         made: u32,
     ) -> UnitRecord
-        ensures { λ r. ⌜ r ≡ record { number = number; class = class; coincide = coincide; nominated = nominated; n = n; pc = pc; «step_down» = «step_down»; «step_up» = «step_up»; made = made } ⌝ }
+        ensures { λ r. ⌜ r ≡ unitWith number class coincide nominated (n .0) (pc .0) «step_down» «step_up» made ⌝ }
     {
         UnitRecord {
             number,
