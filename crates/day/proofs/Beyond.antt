@@ -231,5 +231,5 @@ pub offer-unread : (day : Day) (s t : List ℕ) (room : ℕ) {step : Step} → o
 offer-unread day s t room {step} e = offer-local day s (s ++ t) room e (sym (take-append-le (step .used) s t (inside day s room e)))
 
 -- with as many bytes at hand as the longest block has, whatever follows them changes no reply
-pub offer-settled : (day : Day) (s t : List ℕ) (room : ℕ) → 1674 ≤ length s → offerOf day (s ++ t) room ≡ offerOf day s room
-offer-settled day s t room h = offer-alike s (s ++ t) 1674 (agree s (s ++ t) 1674 h (sym (take-append-le 1674 s t h))) h (omega arith) day room
+pub offer-settled : (day : Day) (s t : List ℕ) (room : ℕ) → longestBlock ≤ length s → offerOf day (s ++ t) room ≡ offerOf day s room
+offer-settled day s t room h = offer-alike s (s ++ t) longestBlock (agree s (s ++ t) longestBlock h (sym (take-append-le longestBlock s t h))) h (omega arith) day room
