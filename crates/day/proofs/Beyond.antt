@@ -1,5 +1,5 @@
 -- "Bytes after it are not read": where the bytes agree up to the end of what was taken, it is taken with the same reply and the same result.
-use Prim.Native.Nat.{ℕ, zero, suc, _+_, _*_, _≤_, _<_}
+use Prim.Native.Nat.{ℕ, suc, _+_, _≤_, _<_}
 use mathlib.Core.Path.{_≡_, refl, sym, ap, _∙_}
 use mathlib.Core.Bool.{Bool, true, false}
 use mathlib.Core.List.{List, [], _++_}
@@ -7,34 +7,31 @@ use native.Mathlib.Omega.{arith}
 use borrow.Author.Tests.{lt-ltb, le-leb}
 use lib.ListN.{length, take}
 use lib.Seq.{take-append-le}
-use Rattle.numbers.specs.Bytes.{byteAt, be16, be32, signed32}
+use Rattle.numbers.specs.Bytes.{byteAt}
 use Rattle.numbers.specs.Choice.{pick}
 use Rattle.numbers.specs.Column.{column}
 use Rattle.numbers.specs.Sum.{bit}
 use Rattle.numbers.proofs.Columns.{column-ext}
 use Rattle.terms.specs.Reply.{Reply, is, refused, need, next}
 use Rattle.terms.proofs.Replies.{need-is, next-is}
-use Rattle.records.specs.declared.day.DayRecord.{DayRecord}
 use Rattle.records.specs.declared.group.GroupRecord.{GroupRecord}
 use Rattle.records.specs.declared.unit.UnitRecord.{UnitRecord}
 use Rattle.records.specs.declared.key.Key.{Key}
-use Rattle.records.specs.declared.key.Last.{Last}
-use Rattle.records.specs.Layouts.{Width, u8, u16, u32, i32, size, valueOf, dayLength, dayAt, groupLength, groupAt, unitKind, unitLength, unitAt, marginsOf, endLength, endAt}
-use Rattle.records.specs.Reading.{headOf, unitHeadOf, unitEnd, keyOf, dayFieldsOf, groupFieldsOf, endFieldsOf, unitFieldsOf, unitOf, unitsOf, unitIn}
+use Rattle.records.specs.Layouts.{groupLength, marginsOf, endLength}
+use Rattle.records.specs.Reading.{dayEnd, unitPlace, keyOf, groupFieldsOf, unitsOf, unitIn}
 use Rattle.records.specs.Decoding.{unitN0, unitImplicit}
-use Rattle.records.proofs.Heads.{headed}
+use Rattle.records.proofs.Alike.{Agree, agree, group-same, day-kept, group-kept, end-kept, units-kept, units-same, units-alike}
 use Rattle.records.specs.Longest.{longestBlock}
 use Rattle.records.proofs.Accepted.{units-accepted}
-use Rattle.records.proofs.Places.{place-stride, unit-stride}
-use Rattle.records.proofs.Turns.{unit-long}
+use Rattle.records.proofs.Places.{place-up, place-from}
 use Rattle.records.proofs.Fields.{past}
+use Rattle.records.proofs.Read.{day-short, group-passed}
 use Rattle.walk.specs.declared.table.Role.{Role}
 use Rattle.walk.specs.declared.table.Role.the-variants as R
 use Rattle.walk.specs.declared.table.Head.{Head}
-use Rattle.walk.specs.Table.{roleOf, isBlock, headAt, headIn, lengthAs}
+use Rattle.walk.specs.Table.{roleOf, isBlock, headAt, headIn}
 use Rattle.walk.proofs.Bodies.{body-short}
-use Rattle.walk.proofs.Coming.{is-block}
-use Rattle.walk.proofs.Local.{Agree, agree}
+use Rattle.walk.proofs.Coming.{is-block, lengthIn}
 use Rattle.day.specs.declared.value.Day.{Day}
 use Rattle.day.specs.declared.check.Block.{Block}
 use Rattle.day.specs.declared.offer.Step.{Step}
@@ -44,7 +41,6 @@ use Rattle.day.specs.Blocks.{resultIn, blockKey, blockCount, blockResult
 use Rattle.day.specs.Offers.{headFor, dayTaken, blockTaken, endTaken, taken, offerOf, writtenOf}
 use Rattle.day.proofs.ByKind.{head-came}
 use Rattle.day.proofs.Outcomes.{taken-block}
-use Rattle.day.proofs.Read.{group-passed}
 
 -- past a reading that was not refused, the whole is what comes after it
 onward : {A B : Type 0} (x : Reply A) (rest : A → Reply B) {a : A} {b : B} → x ≡ is a → rest a ≡ is b → next x rest ≡ is b
@@ -52,71 +48,14 @@ unfolding next
 onward x rest e r = rw e r
 
 module _ (s t : List ℕ) (n : ℕ) (a : Agree s t n) where
-  -- a value that lies in those bytes, and so a record
-  be32-same : (at : ℕ) → at + 4 ≤ n → be32 t at ≡ be32 s at
-  unfolding be16 be32
-  be32-same at h =
-      rw (a .same at (omega arith), a .same (at + 1) (omega arith), a .same (at + 2) (omega arith), a .same (at + 2 + 1) (omega arith))
-
-  value-same : (w : Width) (at : ℕ) → at + size w ≤ n → valueOf w t at ≡ valueOf w s at
-  unfolding be16
-  value-same u8 at h = a .same at (omega arith)
-  value-same u16 at h = rw (a .same at (omega arith), a .same (at + 1) (omega arith))
-  value-same u32 at h = be32-same at h
-  value-same i32 at h = ap signed32 (be32-same at h)
-
-  day-same : dayLength ≤ n → dayAt t 0 ≡ dayAt s 0
-  unfolding dayAt
-  day-same h =
-      rw (value-same u16 1 (omega arith), value-same u8 3 (omega arith), value-same u32 4 (omega arith), value-same u16 8 (omega arith), value-same u16 10 (omega arith))
-
-  group-same : groupLength ≤ n → groupAt t 0 ≡ groupAt s 0
-  unfolding groupAt
-  group-same h =
-      rw (value-same u16 1 (omega arith), value-same u8 3 (omega arith), value-same u8 4 (omega arith), value-same u8 5 (omega arith), value-same u32 6 (omega arith))
-
-  end-same : endLength ≤ n → endAt t 0 ≡ endAt s 0
-  unfolding endAt
-  end-same h = rw (value-same u32 1 (omega arith))
-
-  unit-same : (at : ℕ) → at + unitLength ≤ n → unitAt t at ≡ unitAt s at
-  unfolding unitAt
-  unit-same at h =
-      rw (value-same u16 (at + 1) (omega arith), value-same u8 (at + 3) (omega arith), value-same u8 (at + 4) (omega arith), value-same u8 (at + 5) (omega arith), value-same i32 (at + 6) (omega arith), value-same i32 (at + 10) (omega arith), value-same i32 (at + 14) (omega arith), value-same i32 (at + 18) (omega arith), value-same u32 (at + 22) (omega arith))
-
-  -- the units that were read
-  unit-head-kept : (at : ℕ) {end : ℕ} → at + unitLength ≤ n → unitHeadOf s at ≡ is end → unitHeadOf t at ≡ is (at + unitLength)
-  unfolding headOf need
-  unit-head-kept at h e =
-      let b : byteAt t at ≡ unitKind = a .same at (omega arith) ∙ headed s at unitKind unitLength e .first in
-      simp (b, lt-ltb at (length t) (omega (arith, a .long)), le-leb (at + unitLength) (length t) (omega (arith, a .long)))
-
-  unit-kept : (at floor run limit : ℕ) {u : UnitRecord} → at + unitLength ≤ n → unitOf s at floor run limit ≡ is u → unitOf t at floor run limit ≡ is u
-  unfolding unitOf unitFieldsOf next
-  unit-kept at floor run limit h e =
-      let x = next-is _ _ e in
-      rw (unit-head-kept at h (x .1 .0), unit-same at h) (x .1 .1)
-
-  units-kept : (at floor run limit count : ℕ) {end : ℕ} → end ≤ n → unitsOf s at floor run limit count ≡ is end → unitsOf t at floor run limit count ≡ is end
-  unfolding unitsOf
-  units-kept at floor run limit zero h e = e
-  units-kept at floor run limit (suc left) h e =
-      let x = next-is _ _ e in
-      let rest = units-accepted s (unitEnd s at) (x .0 .number + 1) run limit left (unit-long s at floor run limit (x .1 .0)) (x .1 .1) in
-      onward _ _ (unit-kept at floor run limit (omega (arith, rest .ends, place-stride s (unitEnd s at) left)) (x .1 .0)) (units-kept (unitEnd s at) (x .0 .number + 1) run limit left h (x .1 .1))
-
   -- what is taken, by its kind
-  day-kept : dayLength ≤ n → dayTaken t ≡ dayTaken s
-  unfolding dayTaken dayFieldsOf
-  day-kept h = rw (day-same h)
+  opens-kept : (end : ℕ) → dayEnd s ≤ n → dayTaken t end ≡ dayTaken s end
+  unfolding dayTaken
+  opens-kept end h = rw (day-kept s t n a h)
 
-  end-kept : (day : Day) → endLength ≤ n → endTaken day t ≡ endTaken day s
-  unfolding endTaken endFieldsOf
-  end-kept day h = rw (end-same h)
-
-  group-kept : (d : DayRecord) (last : Last) → groupLength ≤ n → groupFieldsOf t d last ≡ groupFieldsOf s d last
-  unfolding groupFieldsOf
-  group-kept d last h = rw (group-same h)
+  closes-kept : (day : Day) (end : ℕ) → endLength ≤ n → endTaken day t end ≡ endTaken day s end
+  unfolding endTaken
+  closes-kept day end h = rw (end-kept s t n a (day .groups) h)
 
   fields-kept : (day : Day) {block : Block} → groupLength ≤ n → block .used ≤ n → blockFieldsOf day s ≡ is block → blockFieldsOf day t ≡ is block
   unfolding blockFieldsOf
@@ -124,8 +63,8 @@ module _ (s t : List ℕ) (n : ℕ) (a : Agree s t n) where
       let x = next-is _ _ e in
       let y = next-is _ _ (x .1 .1) in
       let v : block ≡ blockOf (x .0) (y .0) = cc (y .1 .1) in
-      let u = units-kept groupLength 0 _ _ _ (omega (arith, ap (λ (b : Block). b .used) v)) (y .1 .0) in
-      onward _ _ (group-kept (day .«record») (day .last) h ∙ x .1 .0) (onward _ _ u (y .1 .1))
+      let u = units-kept s t n a groupLength 0 _ _ _ (omega (arith, ap (λ (b : Block). b .used) v)) (y .1 .0) in
+      onward _ _ (group-kept s t n a (day .«record») (day .last) h ∙ x .1 .0) (onward _ _ u (y .1 .1))
 
   block-kept : (day : Day) (room : ℕ) {step : Step} → groupLength ≤ n → step .used ≤ n → blockTaken day s room ≡ is step → blockTaken day t room ≡ is step
   unfolding blockTaken
@@ -147,64 +86,37 @@ module _ (s t : List ℕ) (n : ℕ) (a : Agree s t n) where
       rw (a .same 0 (omega arith)) (sym (past _ _ _ _ some (past _ _ _ _ (p .0) (past _ _ _ _ some (past _ _ _ _ (m .0) (past _ _ _ _ whole (sym (w .1))))))))
 
   -- the result of so many units
-  result-kept : (key : Key) (count : ℕ) → groupLength + unitLength * count ≤ n → resultIn t key count ≡ resultIn s key count
+  result-kept : (key : Key) (count : ℕ) → unitPlace s count ≤ n → resultIn t key count ≡ resultIn s key count
   unfolding resultIn
   result-kept key count h =
       rw (same (λ u. u .number), same (λ u. u .class), same (λ u. bit (unitImplicit u)), same unitN0, same (λ u. u .pc .0), same (λ u. marginsOf u .«step_down»), same (λ u. marginsOf u .«step_up»))
     where
-      one : (i : ℕ) → i < count → unitIn t i ≡ unitIn s i
-      one i l = ap (unitAt t) (unit-stride t i) ∙ unit-same (groupLength + unitLength * i) (omega arith) ∙ ap (unitAt s) (sym (unit-stride s i))
-
       same : {X : Type 0} (f : UnitRecord → X) → column count (λ i. f (unitIn t i)) ≡ column count (λ i. f (unitIn s i))
-      same f = column-ext _ _ count (λ i l. ap f (one i l))
+      same f = column-ext _ _ count (λ i l. ap f (units-same s t n a groupLength i (omega (arith, place-up s groupLength (suc i) count l))))
 
   -- where s has those bytes too, what lies in them is read alike
   module _ (far : n ≤ length s) where
-    unit-alike : (at floor run limit : ℕ) → at + unitLength ≤ n → unitOf t at floor run limit ≡ unitOf s at floor run limit
-    unfolding unitOf unitFieldsOf headOf need
-    unit-alike at floor run limit h =
-        simp (
-          lt-ltb at (length s) (omega arith),
-          lt-ltb at (length t) (omega (arith, a .long)),
-          le-leb (at + unitLength) (length s) (omega arith),
-          le-leb (at + unitLength) (length t) (omega (arith, a .long)),
-          a .same at (omega arith),
-          unit-same at h,
-        )
-
-    units-alike : (at floor run limit count : ℕ) → at + unitLength * count ≤ n → unitsOf t at floor run limit count ≡ unitsOf s at floor run limit count
-    unfolding unitsOf next
-    units-alike at floor run limit zero h = refl
-    units-alike at floor run limit (suc left) h =
-        rw (unit-alike at floor run limit (omega arith)) (go (unitOf s at floor run limit) (λ u. units-alike (at + unitLength) (u .number + 1) run limit left (omega arith)))
-      where
-        go : (x : Reply UnitRecord)
-            → ((u : UnitRecord) → unitsOf t (at + unitLength) (u .number + 1) run limit left ≡ unitsOf s (at + unitLength) (u .number + 1) run limit left)
-            → next x (λ u. unitsOf t (at + unitLength) (u .number + 1) run limit left) ≡ next x (λ u. unitsOf s (at + unitLength) (u .number + 1) run limit left)
-        go (is u) f = f u
-        go (refused number place) f = refl
-
     module _ (most : longestBlock ≤ n) where
       fields-alike : (day : Day) → blockFieldsOf day t ≡ blockFieldsOf day s
       unfolding blockFieldsOf next
-      fields-alike day = rw (group-kept (day .«record») (day .last) (omega arith)) (go (groupFieldsOf s (day .«record») (day .last)) refl)
+      fields-alike day = rw (group-kept s t n a (day .«record») (day .last) (omega arith)) (go (groupFieldsOf s (day .«record») (day .last)) refl)
         where
           go : (x : Reply GroupRecord) → groupFieldsOf s (day .«record») (day .last) ≡ x
               → next x (λ g. next (unitsOf t groupLength 0 (day .«record» .run) (day .«record» .«margin_limit») (g .count)) λ end. is (blockOf g end))
               ≡ next x (λ g. next (unitsOf s groupLength 0 (day .«record» .run) (day .«record» .«margin_limit») (g .count)) λ end. is (blockOf g end))
           go (is g) e =
               let p = group-passed s (day .«record») (day .last) e in
-              rw (units-alike groupLength 0 (day .«record» .run) (day .«record» .«margin_limit») (g .count) (omega (arith, p .most, ap (λ (x : GroupRecord). x .count) (p .value))))
+              rw (units-alike s t n a far groupLength 0 (day .«record» .run) (day .«record» .«margin_limit») (g .count) (omega (arith, p .most, ap (λ (x : GroupRecord). x .count) (p .value))))
           go (refused number place) e = refl
 
       block-alike : (day : Day) (room : ℕ) → blockTaken day t room ≡ blockTaken day s room
       unfolding blockTaken
       block-alike day room = rw (fields-alike day)
 
-      taken-alike : (day : Day) (room : ℕ) (role : Role) → taken day t room role ≡ taken day s room role
-      taken-alike day room R.Opens = day-kept (omega arith)
-      taken-alike day room R.Block = block-alike day room
-      taken-alike day room R.Closes = end-kept day (omega arith)
+      taken-alike : (day : Day) (room : ℕ) (role : Role) (end : ℕ) → taken day t room role end ≡ taken day s room role end
+      taken-alike day room R.Opens end = opens-kept end (omega (arith, day-short s))
+      taken-alike day room R.Block end = block-alike day room
+      taken-alike day room R.Closes end = closes-kept day end (omega arith)
 
       head-alike : (day : Day) → headFor day t ≡ headFor day s
       unfolding headFor headIn need
@@ -218,8 +130,8 @@ module _ (s t : List ℕ) (n : ℕ) (a : Agree s t n) where
       unfolding offerOf next
       offer-alike day room = rw (head-alike day) (go (headFor day s))
         where
-          go : (x : Reply Head) → next x (λ head. taken day t room (head .role)) ≡ next x (λ head. taken day s room (head .role))
-          go (is head) = taken-alike day room (head .role)
+          go : (x : Reply Head) → next x (λ head. taken day t room (head .role) (head .end)) ≡ next x (λ head. taken day s room (head .role) (head .end))
+          go (is head) = taken-alike day room (head .role) (head .end)
           go (refused number place) = refl
 
 -- what is used has its first record, and lies in the bytes
@@ -235,25 +147,16 @@ fields-lie day s {block} h e =
     let v : block ≡ blockOf (a .0) (b .0) = cc (b .1 .1) in
     let u = ap (λ (x : Block). x .used) v in
     let k = units-accepted s groupLength 0 _ _ _ h (b .1 .0) in
-    let stride = unit-stride s (a .0 .count) in
-    record { from = omega (arith, k .ends); inside = omega (arith, k .ends, k .within) }
+    record { from = omega (arith, k .ends, place-from s groupLength (a .0 .count)); inside = omega (arith, k .within) }
 
 module _ (day : Day) (s : List ℕ) (room : ℕ) {step : Step} where
-  day-lies : dayLength ≤ length s → dayTaken s ≡ is step → Lies dayLength (step .used) (length s)
+  day-lies : (end : ℕ) → dayTaken s end ≡ is step → end ≡ step .used
   unfolding dayTaken
-  day-lies h e =
-      let a = next-is _ _ e in
-      let v : step ≡ record { used = dayLength; written = 0; day = opened (a .0) } = cc (a .1 .1) in
-      let u = ap (λ (x : Step). x .used) v in
-      record { from = omega arith; inside = omega arith }
+  day-lies end e = let v : record { used = end; written = 0; day = opened (next-is _ _ e .0) } ≡ step = cc (next-is _ _ e .1 .1) in ap (λ (x : Step). x .used) v
 
-  end-lies : endLength ≤ length s → endTaken day s ≡ is step → Lies endLength (step .used) (length s)
+  end-lies : (end : ℕ) → endTaken day s end ≡ is step → end ≡ step .used
   unfolding endTaken
-  end-lies h e =
-      let a = next-is _ _ e in
-      let v : step ≡ record { used = endLength; written = 0; day = closed day } = cc (a .1 .1) in
-      let u = ap (λ (x : Step). x .used) v in
-      record { from = omega arith; inside = omega arith }
+  end-lies end e = let v : record { used = end; written = 0; day = closed day } ≡ step = cc (next-is _ _ e .1 .1) in ap (λ (x : Step). x .used) v
 
   block-lies : groupLength ≤ length s → blockTaken day s room ≡ is step → Lies groupLength (step .used) (length s)
   unfolding blockTaken
@@ -264,18 +167,19 @@ module _ (day : Day) (s : List ℕ) (room : ℕ) {step : Step} where
       let l = fields-lie day s h (a .1 .0) in
       record { from = omega (arith, l .from); inside = omega (arith, l .inside) }
 
-  taken-lies : (role : Role) → lengthAs role ≤ length s → taken day s room role ≡ is step → Lies (lengthAs role) (step .used) (length s)
-  taken-lies R.Opens h x = day-lies h x
-  taken-lies R.Block h x = block-lies h x
-  taken-lies R.Closes h x = end-lies h x
+  taken-lies : (role : Role) (end : ℕ) → end ≡ lengthIn role s 0 → end ≤ length s → taken day s room role end ≡ is step → Lies end (step .used) (length s)
+  taken-lies R.Opens end q h x = record { from = omega (arith, day-lies end x); inside = omega (arith, day-lies end x) }
+  taken-lies R.Block end q h x = rw q (block-lies (omega arith) x)
+  taken-lies R.Closes end q h x = record { from = omega (arith, end-lies end x); inside = omega (arith, end-lies end x) }
 
-  taken-kept : (t : List ℕ) → Agree s t (step .used) → (role : Role) → lengthAs role ≤ step .used → taken day s room role ≡ is step → taken day t room role ≡ is step
-  taken-kept t a R.Opens h x = day-kept s t _ a h ∙ x
-  taken-kept t a R.Block h x = block-kept s t _ a day room h (omega arith) x
-  taken-kept t a R.Closes h x = end-kept s t _ a day h ∙ x
+  taken-kept : (t : List ℕ) → Agree s t (step .used) → (role : Role) (end : ℕ) → lengthIn role s 0 ≤ step .used → taken day s room role end ≡ is step
+      → taken day t room role end ≡ is step
+  taken-kept t a R.Opens end h x = opens-kept s t _ a end h ∙ x
+  taken-kept t a R.Block end h x = block-kept s t _ a day room h (omega arith) x
+  taken-kept t a R.Closes end h x = closes-kept s t _ a day end h ∙ x
 
 module _ (day : Day) (s : List ℕ) (room : ℕ) {step : Step} (e : offerOf day s room ≡ is step) where
-  head-taken : (head : Head) × ((headFor day s ≡ is head) × (taken day s room (head .role) ≡ is step))
+  head-taken : (head : Head) × ((headFor day s ≡ is head) × (taken day s room (head .role) (head .end) ≡ is step))
   unfolding offerOf
   head-taken = next-is _ _ e
 
@@ -283,9 +187,8 @@ module _ (day : Day) (s : List ℕ) (room : ℕ) {step : Step} (e : offerOf day 
   offer-lies =
       let x = head-taken in
       let m = head-came day s (x .0) (x .1 .0) in
-      let n = m .end in
-      let l = taken-lies day s room (x .0 .role) (omega (arith, m .long)) (x .1 .1) in
-      record { from = omega (arith, l .from); inside = l .inside }
+      let n : x .0 .end ≡ lengthIn (x .0 .role) s 0 = omega (arith, m .end) in
+      taken-lies day s room (x .0 .role) (x .0 .end) n (m .long) (x .1 .1)
 
   some : 0 < step .used
   some =
@@ -299,15 +202,15 @@ module _ (day : Day) (s : List ℕ) (room : ℕ) {step : Step} (e : offerOf day 
         let x = head-taken in
         let n = head-came day s (x .0) (x .1 .0) .end in
         onward _ _ (head-kept s t _ a day (offer-lies .from) (x .1 .0))
-        (taken-kept day s room t a (x .0 .role) (omega (arith, offer-lies .from)) (x .1 .1))
+        (taken-kept day s room t a (x .0 .role) (x .0 .end) (omega (arith, offer-lies .from)) (x .1 .1))
 
     written-kept : writtenOf t ≡ writtenOf s
     written-kept = rw (a .same 0 some) (go (isBlock (roleOf (byteAt s 0))) refl)
       where
         go : (g : Bool) → isBlock (roleOf (byteAt s 0)) ≡ g → pick g (blockResult t) [] ≡ pick g (blockResult s) []
         go true q =
-            let u = ap (λ (x : Step). x .used) (taken-block day s room e (is-block (roleOf (byteAt s 0)) q) .value) ∙ unit-stride s (blockCount s) in
-            ap (λ (g : GroupRecord). resultIn t (keyOf g) (g .count)) (group-same s t _ a (omega arith)) ∙ result-kept s t _ a (blockKey s) (blockCount s) (omega arith)
+            let u = ap (λ (x : Step). x .used) (taken-block day s room e (is-block (roleOf (byteAt s 0)) q) .value) in
+            ap (λ (g : GroupRecord). resultIn t (keyOf g) (g .count)) (group-same s t _ a (omega (arith, place-from s groupLength (blockCount s)))) ∙ result-kept s t _ a (blockKey s) (blockCount s) (omega arith)
         go false q = refl
 
 -- what was taken has bytes, and lies in those that were offered
@@ -328,5 +231,5 @@ pub offer-unread : (day : Day) (s t : List ℕ) (room : ℕ) {step : Step} → o
 offer-unread day s t room {step} e = offer-local day s (s ++ t) room e (sym (take-append-le (step .used) s t (inside day s room e)))
 
 -- with as many bytes at hand as the longest block has, whatever follows them changes no reply
-pub offer-settled : (day : Day) (s t : List ℕ) (room : ℕ) → 1674 ≤ length s → offerOf day (s ++ t) room ≡ offerOf day s room
-offer-settled day s t room h = offer-alike s (s ++ t) 1674 (agree s (s ++ t) 1674 h (sym (take-append-le 1674 s t h))) h (omega arith) day room
+pub offer-settled : (day : Day) (s t : List ℕ) (room : ℕ) → longestBlock ≤ length s → offerOf day (s ++ t) room ≡ offerOf day s room
+offer-settled day s t room h = offer-alike s (s ++ t) longestBlock (agree s (s ++ t) longestBlock h (sym (take-append-le longestBlock s t h))) h (omega arith) day room

@@ -10,14 +10,14 @@ use lib.ListN.{length}
 use Rattle.numbers.proofs.Choices.{and-both}
 use Rattle.terms.specs.Reply.{is, refused, next}
 use Rattle.terms.proofs.Replies.{need-is}
-use Rattle.records.specs.Layouts.{dayLength, groupLength, endLength}
-use Rattle.records.specs.Reading.{permitted}
+use Rattle.records.specs.Layouts.{groupLength, endLength}
+use Rattle.records.specs.Reading.{permitted, dayEnd}
 use Rattle.walk.specs.declared.table.State.the-variants.{Open}
 use Rattle.walk.specs.declared.table.Role.{Role}
 use Rattle.walk.specs.declared.table.Role.the-variants.{Opens, Block, Closes}
 use Rattle.walk.specs.declared.table.Head.{Head}
-use Rattle.walk.specs.Table.{headIn, lengthAs}
-use Rattle.walk.proofs.Coming.{block-open, Came, came}
+use Rattle.walk.specs.Table.{headIn}
+use Rattle.walk.proofs.Coming.{block-open, lengthIn, Came, came}
 use Rattle.day.specs.declared.value.Day.{Day}
 use Rattle.day.specs.Days.{couldBeOpen, possible}
 use Rattle.day.specs.Blocks.{blockResult}
@@ -42,12 +42,12 @@ module _ (day : Day) (s : List ℕ) where
     head-came = came s 0 (day .state) head head-read
 
     -- a record of each role lies whole, and its fields decide
-    long-as : (role : Role) → head .role ≡ role → lengthAs role ≤ length s
+    long-as : (role : Role) → head .role ≡ role → lengthIn role s 0 ≤ length s
     long-as role k =
         let m = head-came in
         rw (← k) (omega (arith, m .end, m .long))
 
-    offer-as : (role : Role) → head .role ≡ role → (room : ℕ) → offerOf day s room ≡ taken day s room role
+    offer-as : (role : Role) → head .role ≡ role → (room : ℕ) → offerOf day s room ≡ taken day s room role (head .end)
     unfolding offerOf next
     offer-as role k room = rw (e, k)
 
@@ -58,10 +58,10 @@ module _ (day : Day) (s : List ℕ) where
         eqb-false _ _ (not-true _ (and-both (not (eqb (day .groups) 4294967295)) (permitted (day .«record» .quarters)) q .0))
 
     module _ (k : head .role ≡ Opens) where
-      pub day-long : dayLength ≤ length s
+      pub day-long : dayEnd s ≤ length s
       day-long = long-as Opens k
 
-      pub offer-day : (room : ℕ) → offerOf day s room ≡ dayTaken s
+      pub offer-day : (room : ℕ) → offerOf day s room ≡ dayTaken s (head .end)
       offer-day = offer-as Opens k
 
       pub day-writes : writtenOf s ≡ []
@@ -84,7 +84,7 @@ module _ (day : Day) (s : List ℕ) where
       pub end-long : endLength ≤ length s
       end-long = long-as Closes k
 
-      pub offer-end : (room : ℕ) → offerOf day s room ≡ endTaken day s
+      pub offer-end : (room : ℕ) → offerOf day s room ≡ endTaken day s (head .end)
       offer-end = offer-as Closes k
 
       pub end-writes : writtenOf s ≡ []

@@ -45,7 +45,7 @@ module _ (s why : List ℕ) (n0 x1 x2 x3 : List ℤ) where
       pub there : UnitLaying s here why n0 x1 x2 x3 i room to
       there =
           record {
-            bytes = omega (arith, g .place, p .bytes i l);
+            bytes = rw (g .place) (p .bytes i l);
             below = l;
             whys = p .whys;
             firsts = p .firsts;

@@ -1,5 +1,5 @@
 -- What an offer that was taken was, and what it left: its reply is read back by what the record that came is to the day.
-use Prim.Native.Nat.{ℕ, _+_, _*_, _≤_}
+use Prim.Native.Nat.{ℕ, _+_, _≤_}
 use mathlib.Core.Path.{_≡_, refl, sym, ap, _∙_}
 use mathlib.Core.Bool.{Bool, true, false}
 use mathlib.Core.List.{List, [], _++_}
@@ -11,7 +11,7 @@ use Rattle.numbers.specs.Bytes.{byteAt}
 use Rattle.numbers.specs.Choice.{pick}
 use Rattle.terms.specs.Reply.{is}
 use Rattle.terms.proofs.Replies.{need-is, next-is}
-use Rattle.records.specs.Layouts.{dayLength, groupLength, groupAt, endLength}
+use Rattle.records.specs.Layouts.{groupLength, groupAt}
 use Rattle.records.specs.Reading.{unitPlace}
 use Rattle.writers.specs.Results.{resultLength}
 use Rattle.walk.specs.declared.table.Role.{Role}
@@ -53,7 +53,7 @@ module _ (day : Day) (s : List ℕ) (room : ℕ) {step : Step} where
       by-fields long (a .1 .0) (leb-true (a .0 .written) room (b .0)) (cc (b .1))
 
   module _ (e : offerOf day s room ≡ is step) where
-    head-taken : (head : Head) × ((headFor day s ≡ is head) × (taken day s room (head .role) ≡ is step))
+    head-taken : (head : Head) × ((headFor day s ≡ is head) × (taken day s room (head .role) (head .end) ≡ is step))
     unfolding offerOf
     head-taken = next-is _ _ e
 
@@ -65,31 +65,31 @@ module _ (day : Day) (s : List ℕ) (room : ℕ) {step : Step} where
         from-block (group-long day s (a .0) (a .1 .0) m) (sym (offer-block day s (a .0) (a .1 .0) m room) ∙ e)
 
     -- a day or an end writes nothing
-    day-none : dayTaken s ≡ is step → step .written ≡ 0
+    day-none : (end : ℕ) → dayTaken s end ≡ is step → step .written ≡ 0
     unfolding dayTaken
-    day-none h =
+    day-none end h =
         let a = next-is _ _ h in
-        let v : step ≡ record { used = dayLength; written = 0; day = opened (a .0) } = cc (a .1 .1) in
+        let v : step ≡ record { used = end; written = 0; day = opened (a .0) } = cc (a .1 .1) in
         ap (λ (x : Step). x .written) v
 
-    end-none : endTaken day s ≡ is step → step .written ≡ 0
+    end-none : (end : ℕ) → endTaken day s end ≡ is step → step .written ≡ 0
     unfolding endTaken
-    end-none h =
+    end-none end h =
         let a = next-is _ _ h in
-        let v : step ≡ record { used = endLength; written = 0; day = closed day } = cc (a .1 .1) in
+        let v : step ≡ record { used = end; written = 0; day = closed day } = cc (a .1 .1) in
         ap (λ (x : Step). x .written) v
 
     none-written : isBlock (roleOf (byteAt s 0)) ≡ false → step .written ≡ 0
     none-written n =
         let a = head-taken in
-        go (a .0 .role) (ap isBlock (sym (head-came day s (a .0) (a .1 .0) .first)) ∙ n) (a .1 .1)
+        go (a .0 .role) (a .0 .end) (ap isBlock (sym (head-came day s (a .0) (a .1 .0) .first)) ∙ n) (a .1 .1)
       where
-        go : (role : Role) → isBlock role ≡ false → taken day s room role ≡ is step → step .written ≡ 0
-        go Opens n h = day-none h
-        go Block n h =
+        go : (role : Role) (end : ℕ) → isBlock role ≡ false → taken day s room role end ≡ is step → step .written ≡ 0
+        go Opens end n h = day-none end h
+        go Block end n h =
             let z : _≡_ {A = ℕ} 0 1 = cc in
             absurd (omega arith)
-        go Closes n h = end-none h
+        go Closes end n h = end-none end h
 
     -- what was written is as long as the reply tells
     pub written-length : length (writtenOf s) ≡ step .written

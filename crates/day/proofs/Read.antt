@@ -1,55 +1,32 @@
 -- What holds of a block that passed its checks: its values are the layouts', and each is in its range.
-use Prim.Native.Nat.{ℕ, zero, suc, _+_, _*_, _≤_, _<_}
+use Prim.Native.Nat.{ℕ, _≤_, _<_}
 use mathlib.Core.Path.{_≡_, refl, sym, ap, _∙_}
 use mathlib.Core.Bool.{true}
 use mathlib.Core.List.{List}
 use native.Mathlib.Omega.{arith}
 use native.Mathlib.Decide.{decLt}
-use borrow.Author.Tests.{leb-true}
-use lib.Dec.{leb}
 use lib.IntN.{ℤ, pos}
 use lib.ListN.{length, getD}
 use Rattle.numbers.specs.Column.{column, at}
 use Rattle.numbers.proofs.Integers.{zarith}
 use Rattle.group.specs.Accepted.{Level}
 use Rattle.group.specs.Accepted.{Sound, Accepted}
-use Rattle.numbers.proofs.Choices.{and-both}
 use Rattle.numbers.proofs.Columns.{column-length, column-at, column-past}
 use Rattle.terms.specs.Reply.{is}
-use Rattle.terms.proofs.Replies.{need-is, next-is}
-use Rattle.records.specs.declared.day.DayRecord.{DayRecord}
-use Rattle.records.specs.declared.key.Last.{Last}
+use Rattle.terms.proofs.Replies.{next-is}
 use Rattle.records.specs.declared.group.GroupRecord.{GroupRecord}
 use Rattle.terms.specs.Checks.{mostUnits}
 use Rattle.group.specs.Group.{marginsAt}
 use Rattle.records.specs.Layouts.{groupLength, groupAt, marginsOf}
-use Rattle.records.specs.Reading.{follows, groupFieldsOf, unitsOf, unitPlace, unitIn}
+use Rattle.records.specs.Reading.{follows, unitsOf, unitPlace, unitIn}
 use Rattle.records.specs.Decoding.{unitN0}
 use Rattle.records.proofs.Accepted.{unit-in, block-end}
+use Rattle.records.proofs.Read.{GroupPassed, group-passed}
 use Rattle.day.specs.declared.value.Day.{Day}
 use Rattle.day.specs.declared.check.Block.{Block}
 use Rattle.day.specs.Checking.{blockOf, blockFieldsOf}
 use Rattle.day.specs.Blocks.{groupIn, blockKey, blockCount, blockGroup}
 use Rattle.day.specs.Inner.{Passed}
-
--- a group record whose fields passed
-pub record GroupPassed (s : List ℕ) (last : Last) (g : GroupRecord) : Type 0 where
-  pub value : g ≡ groupAt s 0
-  pub most : blockCount s ≤ mostUnits
-  pub after : follows last (blockKey s) ≡ true
-
-pub group-passed : (s : List ℕ) (d : DayRecord) (last : Last) {g : GroupRecord} → groupFieldsOf s d last ≡ is g → GroupPassed s last g
-unfolding groupFieldsOf
-group-passed s d last {g} e =
-    let q = need-is _ _ _ _ e in
-    let n = need-is _ _ _ _ (q .1) in
-    let k = need-is _ _ _ _ (n .1) in
-    let m = need-is _ _ _ _ (k .1) in
-    record {
-      value = cc (m .1);
-      most = leb-true _ mostUnits (and-both (leb 1 (blockCount s)) (leb (blockCount s) mostUnits) (n .0) .1);
-      after = k .0;
-    }
 
 pub record Read (day : Day) (s : List ℕ) (block : Block) : Type 0 where
   pub value : block ≡ blockOf (groupAt s 0) (unitPlace s (blockCount s))
@@ -101,7 +78,7 @@ module _ (s : List ℕ) (run limit count : ℕ) {end : ℕ} (long : groupLength 
           rw (column-past class count i 0 h, column-past n0 count i (pos 0) h, column-past pc count i (pos 0) h, column-past down count i (pos 0) h, column-past up count i (pos 0) h)
           (record { known = refl; n0-small = omega zarith; pc-small = omega zarith; down-small = omega zarith; up-small = omega zarith; ordered = refl })
 
-read-by : (day : Day) (s : List ℕ) {block : Block} (g : GroupRecord) (end : ℕ) → GroupPassed s (day .last) g
+read-by : (day : Day) (s : List ℕ) {block : Block} (g : GroupRecord) (end : ℕ) → GroupPassed s (day .«record») (day .last) g
     → groupLength ≤ length s → unitsOf s groupLength 0 (day .«record» .run) (day .«record» .«margin_limit») (g .count) ≡ is end → block ≡ blockOf g end → Read day s block
 read-by day s g end p long u v =
     let run = day .«record» .run in

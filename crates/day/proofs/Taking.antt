@@ -14,7 +14,7 @@ use Rattle.records.specs.declared.group_result.GroupResult.{GroupResult}
 use Rattle.records.specs.Reading.{dayFieldsOf, endFieldsOf}
 use Rattle.records.specs.Decoding.{numbersIn, takenIn}
 use Rattle.group.specs.Columns.{sumsOf}
-use Rattle.records.specs.Layouts.{dayLength, endLength, groupResultBytes}
+use Rattle.records.specs.Layouts.{groupResultBytes}
 use Rattle.writers.specs.Results.{Results, resultLength, resultBytes, unitResultsBytes}
 use Rattle.writers.proofs.Lengths.{length-group-result, length-results}
 use Rattle.day.specs.declared.value.Day.{Day}
@@ -49,13 +49,13 @@ unfolding roomAfter next
 unwritten (is a) f room h = rw (h a)
 unwritten (refused n p) f room h = refl
 
-pub day-room : (s room : List ℕ) → room ≡ roomAfter (dayTaken s) [] room
+pub day-room : (s : List ℕ) (end : ℕ) (room : List ℕ) → room ≡ roomAfter (dayTaken s end) [] room
 unfolding dayTaken
-day-room s room = unwritten (dayFieldsOf s) (λ d. record { used = dayLength; written = 0; day = opened d }) room (λ _. refl)
+day-room s end room = unwritten (dayFieldsOf s) (λ d. record { used = end; written = 0; day = opened d }) room (λ _. refl)
 
-pub end-room : (day : Day) (s room : List ℕ) → room ≡ roomAfter (endTaken day s) [] room
+pub end-room : (day : Day) (s : List ℕ) (end : ℕ) (room : List ℕ) → room ≡ roomAfter (endTaken day s end) [] room
 unfolding endTaken
-end-room day s room = unwritten (endFieldsOf s (day .groups)) (λ _. record { used = endLength; written = 0; day = closed day }) room (λ _. refl)
+end-room day s end room = unwritten (endFieldsOf s (day .groups)) (λ _. record { used = end; written = 0; day = closed day }) room (λ _. refl)
 
 -- the length of a block's result
 length-result : (g : GroupResult) (r : Results) → length (resultBytes g r) ≡ resultLength (g .count)

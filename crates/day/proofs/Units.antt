@@ -23,8 +23,8 @@ use Rattle.terms.proofs.FirstRefused as reading
 use Rattle.terms.proofs.FirstRefused.{Left}
 use Rattle.group.proofs.Amounts.{faults-none, none-faulty}
 use Rattle.records.specs.declared.unit.UnitRecord.{UnitRecord}
-use Rattle.records.specs.Layouts.{groupLength, unitLength, lengthOf, marginsOf, unitAt}
-use Rattle.records.specs.Reading.{placeFrom, unitPlace, unitIn, unitOf, unitFaults}
+use Rattle.records.specs.Layouts.{groupLength, lengthOf, marginsOf, unitAt}
+use Rattle.records.specs.Reading.{unitEnd, placeFrom, unitPlace, unitIn, unitOf, unitFaults}
 use Rattle.records.specs.Decoding.{unitN0, unitImplicit, pcIn}
 use Rattle.records.specs.Inner.{isWhole, marksPass}
 use Rattle.records.proofs.Accepted.{Sound, unit-in, unit-whole}
@@ -40,7 +40,7 @@ module _ {s : List ℕ} (b : Passed s) where
   pub unit-sound : (i : ℕ) → i < blockCount s → Sound (unitIn s i)
   unit-sound = unit-in s (b .run) (b .limit) (blockCount s) (b .long) (b .units)
 
-  pub unit-there : (i : ℕ) → i < blockCount s → unitPlace s i + unitLength ≤ length s
+  pub unit-there : (i : ℕ) → i < blockCount s → unitEnd s (unitPlace s i) ≤ length s
   unit-there = unit-whole s (b .run) (b .limit) (blockCount s) (b .long) (b .units)
 
 -- a mark is the number that it adds to a reason
@@ -137,7 +137,7 @@ module _ (s : List ℕ) (run limit : ℕ) (class₀ taken₀ : List ℕ) (n0₀ 
           record {
             begun = g .begun;
             within = omega arith;
-            place = eh ∙ ap (λ (k : ℕ). k + unitLength) (g .place) ∙ ap (placeFrom s groupLength) (sym (add-one i));
+            place = eh ∙ ap (λ (x : UnitRecord). here + lengthOf x) is-here ∙ ap (unitEnd s) (g .place) ∙ ap (placeFrom s groupLength) (sym (add-one i));
             left = onward;
             sold = added-more (g .sold) upto (rw v) (w .pc) eq;
             classes = fill-more _ _ _ i class _ l (ek ∙ rw v) (g .classes);

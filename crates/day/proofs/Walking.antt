@@ -1,34 +1,27 @@
 -- The walk over an accepted day that lies whole gives the extent of each of its parts, and then is done.
-use Prim.Native.Nat.{ℕ, zero, suc, _+_, _≤_, _<_}
+use Prim.Native.Nat.{ℕ, zero, suc, _+_, _-_, _≤_, _<_}
 use mathlib.Core.Path.{_≡_, refl, sym, ap, _∙_}
-use mathlib.Core.Bool.{true}
 use mathlib.Core.List.{List, [], _∷_, _++_, append-assoc, append-nil}
 use native.Mathlib.Omega.{arith}
 use native.Mathlib.Nat.{add-zero}
-use borrow.Author.Tests.{lt-ltb, le-leb, eq-eqb}
 use lib.ListN.{length, length-append, List·getD-append}
 use lib.Seq.{getD-append-add}
 use Rattle.numbers.specs.Bytes.{byteAt}
 use Rattle.terms.specs.Reply.{is, need, next}
-use Rattle.terms.proofs.Replies.{need-is, next-is}
-use Rattle.records.specs.declared.day.DayRecord.{DayRecord}
+use Rattle.terms.proofs.Replies.{next-is}
 use Rattle.records.specs.declared.group.GroupRecord.{GroupRecord}
-use Rattle.records.specs.declared.unit.UnitRecord.{UnitRecord}
-use Rattle.records.specs.declared.key.Last.{Last}
-use Rattle.records.specs.Layouts.{dayLength, groupLength, groupCount, groupAt, unitKind, unitLength, endLength}
-use Rattle.terms.specs.Checks.{unitCount}
-use Rattle.records.specs.Reading.{headOf, unitHeadOf, dayFieldsOf, groupFieldsOf, endFieldsOf, unitOf, unitsOf}
-use Rattle.records.proofs.Heads as heads
+use Rattle.records.specs.Layouts.{groupLength, groupCount, groupAt}
+use Rattle.records.specs.Reading.{unitHeadOf, unitEnd, dayFieldsOf, groupFieldsOf, endFieldsOf, unitOf, unitsOf}
+use Rattle.records.proofs.UnitHeads.{unit-past, read-end, read-long, unit-moved}
 use Rattle.walk.specs.declared.table.State.{State}
 use Rattle.walk.specs.declared.table.State.the-variants.{Fresh, Open, Closed}
 use Rattle.walk.specs.declared.table.Role.{Role}
 use Rattle.walk.specs.declared.table.Role.the-variants.{Opens, Block, Closes}
 use Rattle.walk.specs.declared.table.Head.{Head}
-use Rattle.walk.specs.Table.{roleOf, rowOf, stateAfter, headIn, Coming, theDay, aGroup, theEnd, lengthAs}
+use Rattle.walk.specs.Table.{roleOf, rowOf, stateAfter, headIn, Coming, theDay, aGroup, theEnd}
 use Rattle.walk.specs.Walk.{headsOf, blockEndOf, walkFrom, done}
 use Rattle.walk.specs.Extents.{from, headed, Blocks, block, ending, DayOf, opening}
 use Rattle.walk.proofs.Coming.{came, head-moved}
-use Rattle.walk.proofs.UnitHeads.{head-end}
 use Rattle.walk.proofs.Visits.{walk-visits}
 use Rattle.day.specs.declared.value.Day.{Day}
 use Rattle.day.specs.declared.check.Block as checked
@@ -40,12 +33,7 @@ use Rattle.day.specs.Offers.{headFor, dayTaken, endTaken, offerOf}
 use Rattle.day.specs.WholeDays.{Part, part, joined, extentsFrom, Run, none, more, AcceptedDay}
 use Rattle.day.proofs.ByKind.{head-read, head-came, offer-day, offer-end}
 use Rattle.day.proofs.Outcomes.{taken-block, reply}
-use Rattle.day.proofs.Read.{group-passed}
-
--- a group record whose fields passed has a count that passed
-group-counted : (s : List ℕ) (d : DayRecord) (last : Last) {g : GroupRecord} → groupFieldsOf s d last ≡ is g → unitCount (groupAt s 0 .count) ≡ true
-unfolding groupFieldsOf
-group-counted s d last e = need-is _ _ _ _ (need-is _ _ _ _ e .1) .0
+use Rattle.records.proofs.Read.{group-passed}
 
 -- the bytes s stand in t from a place on
 record Stand (t : List ℕ) (at : ℕ) (s : List ℕ) : Type 0 where
@@ -53,29 +41,25 @@ record Stand (t : List ℕ) (at : ℕ) (s : List ℕ) : Type 0 where
   pub same : (i : ℕ) → i < length s → byteAt t (at + i) ≡ byteAt s i
 
 module _ (t : List ℕ) (at : ℕ) (s : List ℕ) (a : Stand t at s) where
-  head-there : (i kind len : ℕ) {end : ℕ} → 0 < len → headOf s i kind len ≡ is end → headOf t (at + i) kind len ≡ is (at + end)
-  unfolding headOf need
-  head-there i kind len {end} p e =
-      let m = heads.headed s i kind len e in
-      let q = head-end s i kind len e in
-      let b = a .same i (omega (arith, m .long)) ∙ m .first in
-      let z : at + i + len ≡ at + end = omega arith in
-      simp (b, eq-eqb kind kind refl, lt-ltb (at + i) (length t) (omega (arith, a .fits, m .long)), z, le-leb (at + end) (length t) (omega (arith, a .fits, m .long)))
-
-  unit-there : (from floor run limit : ℕ) {u : UnitRecord} → unitOf s from floor run limit ≡ is u → unitHeadOf t (at + from) ≡ is (at + (from + unitLength))
-  unfolding unitOf
-  unit-there from floor run limit e =
-      let h = next-is _ _ e in
-      head-there from unitKind unitLength (omega arith) (h .1 .0) ∙ ap (λ (n : ℕ). is (at + n)) (sym (head-end s from unitKind unitLength (h .1 .0)))
+  unit-there : (from : ℕ) {end : ℕ} → unitHeadOf s from ≡ is end → unitHeadOf t (at + from) ≡ is (at + end)
+  unit-there from {end} e =
+      let q = read-end s from e in
+      let past = unit-past s from in
+      let long = read-long s from e in
+      let m : end ≡ from + (end - from) = omega arith in
+      let k : at + from + (end - from) ≡ at + end = omega arith in
+      unit-moved s t from (at + from) (a .same from (omega arith)) (end - from) (e ∙ ap is m) (omega (arith, a .fits)) ∙ ap is k
 
   units-there : (from floor run limit count : ℕ) {end : ℕ} → unitsOf s from floor run limit count ≡ is end → headsOf t (at + from) count ≡ is (at + end)
-  unfolding unitsOf headsOf next
+  unfolding unitsOf unitOf headsOf next
   units-there from floor run limit zero {end} e =
       let q : from ≡ end = cc e in
       rw q
   units-there from floor run limit (suc count) {end} e =
-      let u = next-is (unitOf s from floor run limit) (λ u. unitsOf s (from + unitLength) (u .number + 1) run limit count) e in
-      rw (unit-there from floor run limit (u .1 .0)) (units-there (from + unitLength) (u .0 .number + 1) run limit count (u .1 .1))
+      let u = next-is (unitOf s from floor run limit) (λ u. unitsOf s (unitEnd s from) (u .number + 1) run limit count) e in
+      let h = next-is _ _ (u .1 .0) in
+      let q : unitHeadOf s from ≡ is (unitEnd s from) = h .1 .0 ∙ ap is (read-end s from (h .1 .0)) in
+      rw (unit-there from q) (units-there (unitEnd s from) (u .0 .number + 1) run limit count (u .1 .1))
 
   -- a record that comes alone comes there
   record-there : (state : State) {h : Head} → headIn s 0 state ≡ is h → headIn t at state ≡ headed (h .role) (at + h .end)
@@ -101,7 +85,7 @@ module _ (t : List ℕ) (at : ℕ) (s : List ℕ) (a : Stand t at s) where
         let v : x .used ≡ u .0 = ap (λ (y : checked.Block). y .used) w in
         let h : headsOf t (at + groupLength) (groupAt s 0 .count) ≡ is (at + u .0) =
         ap (λ (y : GroupRecord). headsOf t (at + groupLength) (y .count)) (sym (p .value)) ∙ units-there groupLength 0 _ _ _ (u .1 .0) in
-        rw (count-there, group-counted s (day .«record») (day .last) (g .1 .0), v) h
+        rw (count-there, p .counted, v) h
 
 -- the front part of the rest of a day stands where the rest begins
 stand : (pre s post : List ℕ) → Stand (pre ++ (s ++ post)) (length pre) s
@@ -123,26 +107,19 @@ module _ (day : Day) (s : List ℕ) (room : ℕ) {step : Step} (e : offerOf day 
   head-as : (state : State) (role : Role) (end : ℕ) → day .state ≡ state → head .role ≡ role → head .end ≡ end → headIn s 0 state ≡ headed role end
   head-as state role end p q n = rw (p, q, n) at (head-read day s head h)
 
-  ends-as : (role : Role) → head .role ≡ role → head .end ≡ lengthAs role
-  ends-as role q =
-      let m : head .end ≡ 0 + lengthAs role = rw q at (head-came day s head h .end) in
-      omega arith
-
   day-takes : day .state ≡ Fresh → head .role ≡ Opens → Takes s (day .state) (step .day .state)
   unfolding dayTaken
   day-takes p q =
       let a = next-is (dayFieldsOf s) _ (sym (offer-day day s head h q room) ∙ e) in
-      let v : step ≡ record { used = dayLength; written = 0; day = opened (a .0) } = cc (a .1 .1) in
-      let n : length s ≡ dayLength = sym u ∙ ap (λ (x : Step). x .used) v in
-      rw (p, v) (the-day (head-as Fresh Opens (length s) p q (ends-as Opens q ∙ sym n)))
+      let v : step ≡ record { used = head .end; written = 0; day = opened (a .0) } = cc (a .1 .1) in
+      rw (p, v) (the-day (head-as Fresh Opens (length s) p q (sym (ap (λ (x : Step). x .used) v) ∙ u)))
 
   end-takes : day .state ≡ Open → head .role ≡ Closes → Takes s (day .state) (step .day .state)
   unfolding endTaken
   end-takes p q =
       let a = next-is (endFieldsOf s (day .groups)) _ (sym (offer-end day s head h q room) ∙ e) in
-      let v : step ≡ record { used = endLength; written = 0; day = closed day } = cc (a .1 .1) in
-      let n : length s ≡ endLength = sym u ∙ ap (λ (x : Step). x .used) v in
-      rw (p, v) (the-end (head-as Open Closes (length s) p q (ends-as Closes q ∙ sym n)))
+      let v : step ≡ record { used = head .end; written = 0; day = closed day } = cc (a .1 .1) in
+      rw (p, v) (the-end (head-as Open Closes (length s) p q (sym (ap (λ (x : Step). x .used) v) ∙ u)))
 
   block-takes : day .state ≡ Open → head .role ≡ Block → Takes s (day .state) (step .day .state)
   block-takes p q =

@@ -1,6 +1,6 @@
 -- What the checks pass is taken, and so is what our writers made, by a day that takes it next: its head comes by the table, and its fields are read.
-use Prim.Native.Nat.{ℕ, _+_, _*_, _≤_}
-use mathlib.Core.Path.{_≡_, refl, _∙_, sym}
+use Prim.Native.Nat.{ℕ, _≤_}
+use mathlib.Core.Path.{_≡_, refl, sym, ap, _∙_}
 use mathlib.Core.Bool.{true}
 use mathlib.Core.List.{List}
 use native.Mathlib.Omega.{arith}
@@ -12,12 +12,11 @@ use Rattle.terms.specs.Refusals.{answer}
 use Rattle.terms.specs.declared.refusal.Answer.{Answer}
 use Rattle.terms.proofs.Replies.{need-is, next-is}
 use Rattle.records.specs.declared.day.DayRecord.{DayRecord}
-use Rattle.records.specs.declared.group.GroupRecord.{GroupRecord}
-use Rattle.records.specs.declared.key.Last.{Last}
 use Rattle.records.specs.declared.end.EndRecord.{EndRecord}
-use Rattle.records.specs.Layouts.{dayKind, dayLength, groupKind, groupLength, endKind, endLength}
-use Rattle.records.specs.Reading.{headOf, keyOf, dayOf, groupOf, groupFieldsOf, endOf}
-use Rattle.records.proofs.Heads.{headed}
+use Rattle.records.specs.Layouts.{dayLengthOf, endKind, endLength}
+use Rattle.records.specs.Reading.{keyOf, dayOf, groupHeadOf, endHeadOf, endFieldsOf, endOf}
+use Rattle.records.proofs.Heads.{head-end}
+use Rattle.records.proofs.Read.{day-read, day-ends, group-read}
 use Rattle.writers.specs.Columns.{Columns, count}
 use Rattle.writers.specs.Results.{resultLength}
 use Rattle.writers.specs.Writing.{groupOver, DayWritten, EndWritten, BlockWritten}
@@ -26,9 +25,9 @@ use Rattle.writers.proofs.Back.{day-back, end-back, block-taken}
 use Rattle.walk.specs.declared.table.State.the-variants.{Fresh, Open}
 use Rattle.walk.specs.declared.table.Role.the-variants as R
 use Rattle.walk.specs.declared.table.Head.{Head}
-use Rattle.walk.specs.Table.{roleOf, bodyOf, mayCome, headIn, blockHeadIn}
+use Rattle.walk.specs.Table.{headIn, blockHeadIn}
 use Rattle.records.proofs.Fields.{past}
-use Rattle.walk.proofs.Coming.{head-of, block-came}
+use Rattle.walk.proofs.Coming.{came, day-comes, group-comes, end-comes, block-came}
 use Rattle.day.specs.declared.value.Day.{Day}
 use Rattle.day.specs.declared.check.Block.{Block}
 use Rattle.day.specs.Days.{opened, counted, closed, couldBeOpen, possible}
@@ -38,38 +37,35 @@ use Rattle.day.proofs.ByKind.{offer-day, offer-block, offer-end}
 
 module _ (day : Day) (s : List ℕ) (possibly : possible day ≡ true) where
   -- the head of a record that may come
-  comes : (kind len : ℕ) {end : ℕ} → mayCome (day .state) kind ≡ true → 1 + bodyOf (day .state) kind ≡ len → 1 ≤ len → headOf s 0 kind len ≡ is end
-      → headFor day s ≡ is (record { role = roleOf kind; end = end })
-  unfolding headFor need next
-  comes kind len may fixed some e =
-      let h = headed s 0 kind len e in
-      let there = lt-ltb 0 (length s) (omega (arith, h .long)) in
-      simp (there, possibly, head-of s 0 (day .state) kind may (h .first), fixed, e)
+  comes : {head : Head} → headIn s 0 (day .state) ≡ is head → headFor day s ≡ is head
+  unfolding headFor need
+  comes {head} e =
+      let h = came s 0 (day .state) head e in
+      rw (lt-ltb 0 (length s) (omega (arith, h .past, h .long)), possibly, e)
 
   module _ (opens : day .state ≡ Open) where
-    pub block-comes : {end : ℕ} → headOf s 0 groupKind groupLength ≡ is end → headFor day s ≡ is (record { role = R.Block; end = end })
-    block-comes e = comes groupKind groupLength (rw opens) (rw opens) (omega arith) e
-
     -- a block whose fields pass is taken where its result has room
-    block-fits : {block : Block} {end : ℕ} (room : ℕ) → headOf s 0 groupKind groupLength ≡ is end → blockFieldsOf day s ≡ is block → block .written ≤ room
+    block-fits : {block : Block} {end : ℕ} (room : ℕ) → groupHeadOf s ≡ is end → blockFieldsOf day s ≡ is block → block .written ≤ room
         → offerOf day s room ≡ is (record { used = block .used; written = block .written; day = counted day (block .key) })
     unfolding blockTaken next need
     block-fits {block} {end} room e f h =
-        offer-block day s (record { role = R.Block; end = end }) (block-comes e) refl room ∙ simp (f, le-leb (block .written) room h)
+        offer-block day s (record { role = R.Block; end = end }) (comes (rw opens (group-comes s e))) refl room ∙ simp (f, le-leb (block .written) room h)
 
     end-taken : {x : EndRecord} (room : ℕ) → endOf s (day .groups) ≡ is x → offerOf day s room ≡ is (record { used = endLength; written = 0; day = closed day })
     unfolding endOf endTaken next
-    end-taken room e =
-        let a = next-is _ _ e in
-        let head = comes endKind endLength (rw opens) (rw opens) (omega arith) (a .1 .0) in
-        offer-end day s (record { role = R.Closes; end = a .0 }) head refl room ∙ rw (a .1 .1)
+    end-taken {x} room e = let a = next-is _ _ e in by (a .0) (a .1 .0) (a .1 .1)
+      where
+        by : (end : ℕ) → endHeadOf s ≡ is end → endFieldsOf s (day .groups) ≡ is x → offerOf day s room ≡ is (record { used = endLength; written = 0; day = closed day })
+        by end h f =
+            let q : endLength ≡ end = head-end s 0 endKind endLength h in
+            offer-end day s (record { role = R.Closes; end = end }) (comes (rw opens (end-comes s h))) refl room ∙ rw (f, q)
 
-  day-taken : {d : DayRecord} (room : ℕ) → day .state ≡ Fresh → dayOf s ≡ is d → offerOf day s room ≡ is (record { used = dayLength; written = 0; day = opened d })
-  unfolding dayOf dayTaken next
-  day-taken room p e =
-      let a = next-is _ _ e in
-      let head = comes dayKind dayLength (rw p) (rw p) (omega arith) (a .1 .0) in
-      offer-day day s (record { role = R.Opens; end = a .0 }) head refl room ∙ rw (a .1 .1)
+  day-taken : {d : DayRecord} (room : ℕ) → day .state ≡ Fresh → dayOf s ≡ is d → offerOf day s room ≡ is (record { used = dayLengthOf d; written = 0; day = opened d })
+  unfolding dayTaken next
+  day-taken {d} room p e =
+      let a = day-read s e in
+      let q : dayLengthOf d ≡ a .end = ap dayLengthOf (a .value) ∙ day-ends s (a .head) in
+      offer-day day s (record { role = R.Opens; end = a .end }) (comes (rw p (day-comes s (a .head)))) refl room ∙ rw (a .fields, q)
 
 -- what passed checks say: the head of a block came, and its fields are read
 checked-parts : (day : Day) (s : List ℕ) {block : Block} → checkOf day s ≡ is block
@@ -93,16 +89,10 @@ checked-taken day s {block} room e h =
     let head = p .0 in
     offer-block day s head (p .1 .0) (p .1 .1 .0) room ∙ simp (p .1 .1 .1, le-leb (block .written) room h)
 
--- a group record that was read: its head, and its fields
-group-parts : (s : List ℕ) (d : DayRecord) (last : Last) {g : GroupRecord} → groupOf s d last ≡ is g
-    → (end : ℕ) × ((headOf s 0 groupKind groupLength ≡ is end) × (groupFieldsOf s d last ≡ is g))
-unfolding groupOf
-group-parts s d last e = next-is _ _ e
-
 module _ {entry exit : List ℕ} {r : Answer} {n : ℕ} (done : answer r ≡ is n) where
   -- A day record that our writer made opens any fresh day.
   pub day-written : (d : DayRecord) → DayWritten d entry r exit → (day : Day) (room : ℕ) → day .state ≡ Fresh
-      → offerOf day exit room ≡ is (record { used = dayLength; written = 0; day = opened d })
+      → offerOf day exit room ≡ is (record { used = dayLengthOf d; written = 0; day = opened d })
   day-written d w day room p = day-taken day exit (rw p) room p (day-back done d w .1)
 
   -- An end record that our writer made closes any open day of its count.
@@ -119,6 +109,6 @@ module _ {entry exit : List ℕ} {r : Answer} {n : ℕ} (done : answer r ≡ is 
   unfolding blockFieldsOf next
   block-written brp zone quarter made c w day room p q joins aged h =
       let t = block-taken brp zone quarter made c done w (day .«record») (day .last) joins aged in
-      let a = group-parts exit (day .«record») (day .last) (t .0) in
-      let fields : blockFieldsOf day exit ≡ is (blockOf (groupOver brp zone quarter made c) n) = rw (a .1 .1, t .1) in
-      block-fits day exit (rw p q) p room (a .1 .0) fields h
+      let a = group-read exit (day .«record») (day .last) (t .0) in
+      let fields : blockFieldsOf day exit ≡ is (blockOf (groupOver brp zone quarter made c) n) = rw (a .fields, t .1) in
+      block-fits day exit (rw p q) p room (a .head) fields h

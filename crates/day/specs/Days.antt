@@ -5,6 +5,7 @@ use lib.Dec.{eqb}
 use Rattle.records.specs.declared.day.DayRecord.{DayRecord}
 use Rattle.records.specs.declared.key.Key.{Key}
 use Rattle.records.specs.declared.key.Last.the-variants.{Nothing, Block}
+use Rattle.records.specs.Layouts.{dayWith}
 use Rattle.records.specs.Reading.{permitted}
 use Rattle.walk.specs.declared.table.State.{State}
 use Rattle.walk.specs.declared.table.State.the-variants.{Fresh, Open, Closed}
@@ -15,7 +16,7 @@ abbrev pub fresh : Day
 fresh =
     record {
       state = Fresh;
-      «record» = record { day = 0; quarters = 0; run = 0; «position_limit» = 0; «margin_limit» = 0 };
+      «record» = dayWith 0 0 0 0 0;
       groups = 0;
       last = Nothing;
     }

@@ -15,8 +15,8 @@ use Rattle.group.specs.Group.{position}
 use Rattle.group.specs.Inner.{CutOff, faultsOf}
 use Rattle.group.specs.declared.judge.Cut.{Cut}
 use Rattle.records.specs.declared.group.GroupRecord.{GroupRecord}
-use Rattle.records.specs.Layouts.{groupLength, unitLength, unitResultLength, unitResultBytes, marginsOf}
-use Rattle.records.specs.Reading.{unitPlace, unitIn, unitsOf}
+use Rattle.records.specs.Layouts.{groupLength, unitResultLength, unitResultBytes, marginsOf}
+use Rattle.records.specs.Reading.{unitEnd, unitPlace, unitIn, unitsOf}
 use Rattle.records.specs.Decoding.{unitN0, classesIn, takenIn, n0In, pcIn, stepDownIn, stepUpIn}
 use Rattle.writers.specs.Results.{resultFrom, resultLength}
 use Rattle.writers.specs.Runs.{run}
@@ -112,7 +112,7 @@ pub record Cutting (s : List ℕ) (p : ℤ) (cut : Cut) (taken : List ℕ) (n0 x
 
 -- columns of one length, of which unit i has an entry, its record in the block and room for its result
 pub record UnitLaying (s : List ℕ) (here : ℕ) (why : List ℕ) (n0 x1 x2 x3 : List ℤ) (i : ℕ) (room : List ℕ) (to : ℕ) : Type 0 where
-  pub bytes : here + unitLength ≤ length s
+  pub bytes : unitEnd s here ≤ length s
   pub below : i < length n0
   pub whys : length why ≡ length n0
   pub firsts : length x1 ≡ length n0
@@ -124,7 +124,7 @@ pub record UnitLaying (s : List ℕ) (here : ℕ) (why : List ℕ) (n0 x1 x2 x3 
 -- the same of every unit, of at most 64
 pub record Laying (s : List ℕ) (why : List ℕ) (n0 x1 x2 x3 : List ℤ) (room : List ℕ) : Type 0 where
   pub few : length n0 ≤ mostUnits
-  pub bytes : (i : ℕ) → i < length n0 → unitPlace s i + unitLength ≤ length s
+  pub bytes : (i : ℕ) → i < length n0 → unitEnd s (unitPlace s i) ≤ length s
   pub whys : length why ≡ length n0
   pub firsts : length x1 ≡ length n0
   pub seconds : length x2 ≡ length n0

@@ -8,7 +8,6 @@ use Rattle.numbers.specs.Bytes.{byteAt}
 use Rattle.numbers.specs.Choice.{pick}
 use Rattle.terms.specs.Reply.{Reply, is, refused, need, next}
 use Rattle.terms.specs.Refusals.{refusal}
-use Rattle.records.specs.Layouts.{dayLength, endLength}
 use Rattle.records.specs.Reading.{dayFieldsOf, endFieldsOf}
 use Rattle.walk.specs.declared.table.Role.{Role}
 use Rattle.walk.specs.declared.table.Role.the-variants.{Opens, Block, Closes}
@@ -29,11 +28,11 @@ headFor day s =
     (need (possible day) 2 0
     (headIn s 0 (day .state)))
 
--- a day record opens the day: 3
-unfoldable pub dayTaken : List ℕ → Reply Step
-dayTaken s =
+-- a day record that ends at a place opens the day: 3
+unfoldable pub dayTaken : List ℕ → ℕ → Reply Step
+dayTaken s end =
     next (dayFieldsOf s) λ d.
-    is (record { used = dayLength; written = 0; day = opened d })
+    is (record { used = end; written = 0; day = opened d })
 
 -- a block is one group more: its checks, and last 12
 unfoldable pub blockTaken : Day → List ℕ → ℕ → Reply Step
@@ -42,21 +41,21 @@ blockTaken day s room =
     need (leb (block .written) room) 12 0
     (is (record { used = block .used; written = block .written; day = counted day (block .key) }))
 
--- an end record closes the day: 14
-unfoldable pub endTaken : Day → List ℕ → Reply Step
-endTaken day s =
+-- an end record that ends at a place closes the day: 14
+unfoldable pub endTaken : Day → List ℕ → ℕ → Reply Step
+endTaken day s end =
     next (endFieldsOf s (day .groups)) λ _.
-    is (record { used = endLength; written = 0; day = closed day })
+    is (record { used = end; written = 0; day = closed day })
 
--- the fields of what is offered, by what it is to the day
-abbrev pub taken : Day → List ℕ → ℕ → Role → Reply Step
-taken day s room Opens = dayTaken s
-taken day s room Block = blockTaken day s room
-taken day s room Closes = endTaken day s
+-- the fields of what is offered, by what it is to the day and where its first record ends
+abbrev pub taken : Day → List ℕ → ℕ → Role → ℕ → Reply Step
+taken day s room Opens end = dayTaken s end
+taken day s room Block end = blockTaken day s room
+taken day s room Closes end = endTaken day s end
 
 -- the reply: bytes used, bytes written and the new day, or a refusal
 unfoldable pub offerOf : Day → List ℕ → ℕ → Reply Step
-offerOf day s room = next (headFor day s) λ head. taken day s room (head .role)
+offerOf day s room = next (headFor day s) λ head. taken day s room (head .role) (head .end)
 
 -- what an accepted offer writes: the result of a block, and nothing for a day or an end
 abbrev pub writtenOf : List ℕ → List ℕ

@@ -2,7 +2,8 @@
 ghost use mathlib.Core.Path.{_≡_};
 ghost use Prim.Native.Nat.{_≤_, _<_};
 ghost use lib.ListN.{length};
-ghost use Rattle.records.specs.Layouts.{dayLength, groupLength, endLength};
+ghost use Rattle.records.specs.Layouts.{groupLength, endLength};
+ghost use Rattle.records.specs.Reading.{dayEnd};
 ghost use Rattle.walk.specs.Answers.{headReply};
 ghost use Rattle.day.specs.Blocks.{blockResult};
 ghost use Rattle.day.specs.Offers.{headFor, dayTaken, blockTaken, endTaken, Gave, Offering, Offers};
@@ -10,10 +11,8 @@ use crate::check::BlockAnswer;
 use crate::result::take_units;
 use crate::value::Day;
 use records::day::DayAnswer;
-use records::day::DayRecord;
 use records::day::day_fields;
 use records::end::EndAnswer;
-use records::end::EndRecord;
 use records::end::end_fields;
 use records::group::GroupAnswer;
 use records::group::group_fields;
@@ -57,17 +56,17 @@ fn day_head(day: Day, s: &[u8]) -> HeadAnswer
     head_in(s, 0, state)
 }
 
-// A day record opens the day.
-fn open_day(day: Day, s: &[u8]) -> Offered
-    requires { ⌜ dayLength ≤ length (now s) ⌝ }
-    ensures { λ r. ⌜ Gave (dayTaken (now (s .entry))) day r ⌝ }
+// A day record that is there whole and ends at a place opens the day.
+fn open_day(day: Day, s: &[u8], end: usize) -> Offered
+    requires { ⌜ dayEnd (now s) ≤ length (now s) ⌝ }
+    ensures { λ r. ⌜ Gave (dayTaken (now (s .entry)) end) day r ⌝ }
 {
     let d = day_fields(s);
     let DayAnswer::Is(record) = d else {
         return Offered::Refused(d.refusal(), day);
     };
     Offered::Taken(Step {
-        used: DayRecord::LEN,
+        used: end,
         written: 0,
         day: Day::opened(record),
     })
@@ -96,17 +95,17 @@ pub fn take_block(day: Day, s: &[u8], room: &mut [u8]) -> Offered
     })
 }
 
-// An end record closes the day.
-fn close_day(day: Day, s: &[u8]) -> Offered
+// An end record that is there whole and ends at a place closes the day.
+fn close_day(day: Day, s: &[u8], end: usize) -> Offered
     requires { ⌜ endLength ≤ length (now s) ⌝ }
-    ensures { λ r. ⌜ Gave (endTaken day (now (s .entry))) day r ⌝ }
+    ensures { λ r. ⌜ Gave (endTaken day (now (s .entry)) end) day r ⌝ }
 {
     let e = end_fields(s, day.groups);
     let EndAnswer::Is(_) = e else {
         return Offered::Refused(e.refusal(), day);
     };
     Offered::Taken(Step {
-        used: EndRecord::LEN,
+        used: end,
         written: 0,
         day: day.closed(),
     })
@@ -122,8 +121,8 @@ pub fn offer(day: Day, s: &[u8], room: &mut [u8]) -> Offered
     };
     let role = head.role;
     match role {
-        Role::Opens => open_day(day, s),
+        Role::Opens => open_day(day, s, head.end),
         Role::Block => take_block(day, s, room),
-        Role::Closes => close_day(day, s),
+        Role::Closes => close_day(day, s, head.end),
     }
 }

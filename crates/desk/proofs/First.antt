@@ -8,10 +8,9 @@ use borrow.Author.Tests.{lt-ltb}
 use lib.IntN.{ℤ, pos, negℤ}
 use lib.ListN.{length}
 use Rattle.terms.specs.Reply.{Reply, is, refused, need, next}
-use Rattle.terms.proofs.Replies.{need-is, next-is}
 use Rattle.records.specs.declared.day.DayRecord.{DayRecord}
-use Rattle.records.specs.Layouts.{dayKind, dayLength, dayAt, groupLength}
-use Rattle.records.specs.Reading.{headOf, permitted, dayFieldsOf, dayOf}
+use Rattle.records.specs.Layouts.{groupLength}
+use Rattle.records.specs.Reading.{permitted, dayOf}
 use Rattle.walk.specs.declared.table.State.the-variants.{Open}
 use Rattle.walk.specs.declared.table.Head.{Head}
 use Rattle.walk.specs.Table.{blockHeadIn}
@@ -44,15 +43,6 @@ module _ (day s : List ℕ) (room : ℕ) where
 pub head-out : (d : DayRecord) (s : List ℕ) (room : ℕ) {n p : ℕ} → blockHeadIn s 0 Open ≡ refused n p → firstOf d s room ≡ refused n p
 unfolding firstOf next
 head-out d s room e = rw e
-
--- a day record that was read has quarters that a day can have
-pub day-permitted : (s : List ℕ) {d : DayRecord} → dayOf s ≡ is d → permitted (d .quarters) ≡ true
-unfolding dayOf dayFieldsOf
-day-permitted s {d} e =
-    let a = next-is (headOf s 0 dayKind dayLength) _ e in
-    let b = need-is _ _ _ _ (a .1 .1) in
-    let v : d ≡ dayAt s 0 = cc (b .1) in
-    rw v (b .0)
 
 module _ (s : List ℕ) {head : Head} (h : blockHeadIn s 0 Open ≡ is head) where
   came : BlockCame s 0 Open head

@@ -1,5 +1,5 @@
 -- What holds of the units of a block that was accepted: each passed its checks, and they lie one after another.
-use Prim.Native.Nat.{ℕ, zero, suc, _+_, _*_, _≤_, _<_}
+use Prim.Native.Nat.{ℕ, zero, suc, _+_, _≤_, _<_}
 use native.Mathlib.Nat.{not-suc-le-zero}
 use native.Mathlib.Omega.{arith}
 use mathlib.Core.Path.{_≡_, _∙_}
@@ -20,12 +20,12 @@ use Rattle.terms.specs.declared.refusal.Checked.the-variants.{Fine}
 use Rattle.terms.proofs.Replies.{next-is}
 use Rattle.terms.proofs.Passing.{passes}
 use Rattle.records.specs.declared.unit.UnitRecord.{UnitRecord}
-use Rattle.records.specs.Layouts.{groupLength, unitLength, unitAt, marginsOf}
+use Rattle.records.specs.Layouts.{groupLength, unitAt, marginsOf}
 use Rattle.records.specs.Reading.{unitEnd, placeFrom, unitPlace, unitIn, unitFieldsOf, unitOf, unitsOf, unitFaults, valueFaults, markFaults}
 use Rattle.records.specs.Decoding.{unitN0}
 use Rattle.records.proofs.Checks.{both, also-fine, passed-is}
-use Rattle.records.proofs.Places.{place-later, unit-stride}
-use Rattle.records.proofs.Turns.{unit-long}
+use Rattle.records.proofs.Places.{place-later, place-up}
+use Rattle.records.proofs.UnitHeads.{unit-long}
 
 -- a quantity in its range
 pub range-within : (z : ℤ) → inRange z ≡ true → Within 1000000 z
@@ -98,21 +98,20 @@ unit-sound s at floor run limit e = sound _ floor (also-fine _ _ (unit-is s at f
 -- units that were accepted from a place on
 pub record Accepted (s : List ℕ) (at count end : ℕ) : Type 0 where
   pub ends : end ≡ placeFrom s at count
-  pub within : at + unitLength * count ≤ length s
+  pub within : end ≤ length s
   pub each : (i : ℕ) → i < count → Sound (unitAt s (placeFrom s at i))
 
 pub units-accepted : (s : List ℕ) (at floor run limit count : ℕ) {end : ℕ} → at ≤ length s → unitsOf s at floor run limit count ≡ is end → Accepted s at count end
 unfolding unitsOf placeFrom
 units-accepted s at floor run limit zero {end} l e =
     let h : at ≡ end = cc in
-    record { ends = rw h; within = omega arith; each = λ i l. absurd (not-suc-le-zero l) }
+    record { ends = rw h; within = rw (← h) l; each = λ i l. absurd (not-suc-le-zero l) }
 units-accepted s at floor run limit (suc count) {end} l e =
     let a = next-is _ _ e in
-    let long = unit-long s at floor run limit (a .1 .0) in
-    let rest = units-accepted s (unitEnd s at) (a .0 .number + 1) run limit count long (a .1 .1) in
+    let rest = units-accepted s (unitEnd s at) (a .0 .number + 1) run limit count (unit-long s at floor run limit (a .1 .0)) (a .1 .1) in
     record {
       ends = rest .ends ∙ place-later s at count;
-      within = omega (arith, rest .within);
+      within = rest .within;
       each = each (unit-sound s at floor run limit (a .1 .0)) (rest .each);
     }
   where
@@ -132,5 +131,6 @@ module _ (s : List ℕ) (run limit count : ℕ) {end : ℕ} (long : groupLength 
   block-end = all .ends
 
   -- each unit lies whole in the block
-  pub unit-whole : (i : ℕ) → i < count → unitPlace s i + unitLength ≤ length s
-  unit-whole i l = omega (arith, all .within, unit-stride s i)
+  pub unit-whole : (i : ℕ) → i < count → unitEnd s (unitPlace s i) ≤ length s
+  unfolding placeFrom
+  unit-whole i l = omega (arith, all .within, all .ends, place-up s groupLength (suc i) count l)

@@ -28,8 +28,22 @@ headed s at kind len e =
     let d = need-is _ _ _ _ (b .1) in
     record { long = leb-true (at + len) (length s) (d .0); first = eqb-true _ _ (b .0) }
 
+-- it ends after its length
+pub head-end : (s : List ℕ) (at kind len : ℕ) {end : ℕ} → headOf s at kind len ≡ is end → at + len ≡ end
+unfolding headOf
+head-end s at kind len e =
+    let a = need-is _ _ _ _ e in
+    let b = need-is _ _ _ _ (a .1) in
+    let d = need-is _ _ _ _ (b .1) in
+    cc
+
 -- by one test: the head of a record that lies whole and has the kind is read, and no other
 module _ (s : List ℕ) (at kind len : ℕ) where
+  pub whole-headed : leb (at + len) (length s) && eqb (byteAt s at) kind ≡ true → Headed s at kind len
+  whole-headed e =
+      let t = and-both (leb (at + len) (length s)) (eqb (byteAt s at) kind) e in
+      record { long = leb-true _ _ (t .0); first = eqb-true _ _ (t .1) }
+
   pub whole-head : 0 < len → leb (at + len) (length s) && eqb (byteAt s at) kind ≡ true → headOf s at kind len ≡ is (at + len)
   unfolding headOf need
   whole-head pos e =

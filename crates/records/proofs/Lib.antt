@@ -2,6 +2,7 @@
 pub mod Checks
 pub mod Fields
 pub mod Heads
+pub mod UnitHeads
 pub mod Turns
 pub mod Accepted
 pub mod Marks
@@ -9,3 +10,5 @@ pub mod Unique
 pub mod Read
 pub mod Tiled
 pub mod Places
+pub mod Alike
+pub mod Sayable

@@ -1,21 +1,19 @@
 -- A unit that passes in all but N's range and its margins, and what is still to ask of it.
-use Prim.Native.Nat.{ℕ, _+_, _≤_}
-use mathlib.Core.Path.{_≡_, refl, sym, _∙_}
+use Prim.Native.Nat.{ℕ}
+use mathlib.Core.Path.{_≡_, refl}
 use mathlib.Core.Bool.{Bool, true, false, _&&_, _||_}
 use mathlib.Core.List.{List}
 use native.Mathlib.Omega.{arith}
-use borrow.Author.Tests.{le-leb, leb-true, eq-eqb}
-use lib.Dec.{eqb, leb}
+use borrow.Author.Tests.{leb-true}
+use lib.Dec.{eqb}
 use lib.IntN.{ℤ, pos, negℤ}
-use lib.ListN.{length}
 use lib.Signed.{leZ}
-use Rattle.numbers.specs.Bytes.{byteAt}
 use Rattle.numbers.specs.Choice.{pick, eqZ}
 use Rattle.numbers.specs.Range.{Within}
 use Rattle.numbers.proofs.Choices.{and-both}
 use Rattle.numbers.proofs.Integers.{zarith}
 use Rattle.terms.specs.Reply.{is, next}
-use Rattle.terms.specs.Quantities.{implicit, consideredOf}
+use Rattle.terms.specs.Quantities.{implicit}
 use Rattle.terms.specs.Refusals.{check, passed}
 use Rattle.terms.specs.Checks.{inRange, marginChecks, amountChecks}
 use Rattle.terms.specs.declared.refusal.Checked.{Checked}
@@ -23,13 +21,14 @@ use Rattle.terms.specs.declared.refusal.Checked.the-variants.{Fine, Faulty}
 use Rattle.terms.proofs.Replies.{next-is}
 use Rattle.terms.proofs.Passing.{passes}
 use Rattle.records.specs.declared.unit.UnitRecord.{UnitRecord}
-use Rattle.records.specs.Layouts.{unitKind, unitLength, unitAt, marginsOf}
-use Rattle.records.specs.Reading.{aged, also, headOf, markFaults, valueFaults, unitFaults, unitFieldsOf, unitOf}
+use Rattle.records.specs.Layouts.{unitAt, marginsOf}
+use Rattle.records.specs.Reading.{aged, also, markFaults, valueFaults, unitFaults, unitFieldsOf, unitOf}
 use Rattle.records.specs.Decoding.{unitN0}
 use Rattle.records.specs.Inner.{isWhole, isFine, marksPass}
 use Rattle.records.proofs.Checks.{also-fine}
 use Rattle.records.proofs.Accepted.{range-within, unit-is}
-use Rattle.records.proofs.Heads.{headed, whole-head}
+use Rattle.records.proofs.UnitHeads as head
+use Rattle.records.proofs.UnitHeads.{whole-read}
 
 fine-is : (r : Checked) → isFine r ≡ true → r ≡ Fine
 unfolding isFine
@@ -98,13 +97,11 @@ module _ (u : UnitRecord) (floor run limit : ℕ) where
 module _ (s : List ℕ) (at floor run limit : ℕ) where
   pub unit-read : isWhole s at ≡ true → unitFaults (unitAt s at) floor run limit ≡ Fine → unitOf s at floor run limit ≡ is (unitAt s at)
   unfolding unitOf unitFieldsOf next passed
-  unit-read w e = rw (whole-head s at unitKind unitLength (omega arith) w, e)
+  unit-read w e = rw (whole-read s at w, e)
 
   pub read-whole : {u : UnitRecord} → unitOf s at floor run limit ≡ is u → isWhole s at ≡ true
   unfolding unitOf
-  read-whole e =
-      let h = headed s at unitKind unitLength (next-is _ _ e .1 .0) in
-      rw (le-leb (at + unitLength) (length s) (h .long), eq-eqb (byteAt s at) unitKind (h .first))
+  read-whole e = head.read-whole s at (next-is _ _ e .1 .0)
 
   pub read-marked : {u : UnitRecord} → unitOf s at floor run limit ≡ is u → marksPass (unitAt s at) floor run limit ≡ true
   read-marked e = marks-needed _ floor run limit (unit-is s at floor run limit e .0)

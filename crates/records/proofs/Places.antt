@@ -1,22 +1,40 @@
--- Units that lie one after another: the place of one by its index, from wherever the counting starts; today every unit record has one length.
-use Prim.Native.Nat.{ℕ, zero, suc, _+_, _*_}
-use mathlib.Core.Path.{_≡_, refl, ap, _∙_}
+-- Units that lie one after another: the place of one by its index, from wherever the counting starts.
+use Prim.Native.Nat.{ℕ, zero, suc, _+_, _*_, _≤_, _<_}
+use mathlib.Core.Path.{_≡_, refl, ap}
 use mathlib.Core.List.{List}
 use native.Mathlib.Omega.{arith}
-use Rattle.records.specs.Layouts.{groupLength, unitLength}
-use Rattle.records.specs.Reading.{unitEnd, placeFrom, unitPlace}
+use native.Mathlib.Decide.{decLt}
+use Rattle.records.specs.Longest.{longestUnit}
+use Rattle.records.specs.Reading.{unitEnd, placeFrom}
+use Rattle.records.proofs.UnitHeads.{unit-past, unit-most}
 
--- counted from the second unit on, or from the first
-pub place-later : (s : List ℕ) (at i : ℕ) → placeFrom s (unitEnd s at) i ≡ placeFrom s at (suc i)
-unfolding placeFrom
-place-later s at zero = refl
-place-later s at (suc i) = ap (unitEnd s) (place-later s at i)
+module _ (s : List ℕ) (at : ℕ) where
+  -- counted from the second unit on, or from the first
+  pub place-later : (i : ℕ) → placeFrom s (unitEnd s at) i ≡ placeFrom s at (suc i)
+  unfolding placeFrom
+  place-later zero = refl
+  place-later (suc i) = ap (unitEnd s) (place-later i)
 
-pub place-stride : (s : List ℕ) (at i : ℕ) → placeFrom s at i ≡ at + unitLength * i
-unfolding placeFrom
-place-stride s at zero = omega arith
-place-stride s at (suc i) = ap (λ (k : ℕ). k + unitLength) (place-stride s at i) ∙ omega arith
+  -- places rise
+  pub place-up : (i j : ℕ) → i ≤ j → placeFrom s at i ≤ placeFrom s at j
+  unfolding placeFrom
+  place-up i zero h =
+      let e : i ≡ zero = omega arith in
+      rw e (omega arith)
+  place-up i (suc j) h = go (place-up i j) (decLt j i)
+    where
+      go : (i ≤ j → placeFrom s at i ≤ placeFrom s at j) → Dec (j < i) → placeFrom s at i ≤ placeFrom s at (suc j)
+      go before (yes l) =
+          let e : i ≡ suc j = omega arith in
+          rw e (omega arith)
+      go before (no l) = omega (arith, before (omega arith), unit-past s (placeFrom s at j))
 
--- the one law that says where a unit of a block stands
-pub unit-stride : (s : List ℕ) (i : ℕ) → unitPlace s i ≡ groupLength + unitLength * i
-unit-stride s i = place-stride s groupLength i
+  pub place-from : (i : ℕ) → at ≤ placeFrom s at i
+  unfolding placeFrom
+  place-from i = place-up zero i (omega arith)
+
+  -- by no more than the longest unit each
+  pub place-most : (i : ℕ) → placeFrom s at i ≤ at + longestUnit * i
+  unfolding placeFrom
+  place-most zero = omega arith
+  place-most (suc i) = omega (arith, place-most i, unit-most s (placeFrom s at i))

@@ -1,23 +1,39 @@
--- What holds of a record that was read: each test of its head and of its fields passed.
+-- What holds of a record that was read: each test of its head and of its fields passed. A test more among a group's fields is a line here, and no other law takes those fields apart.
 use Prim.Native.Nat.{ℕ, _≤_, _<_}
 use mathlib.Core.Path.{_≡_}
 use mathlib.Core.Bool.{true}
 use mathlib.Core.List.{List}
+use native.Mathlib.Omega.{arith}
 use lib.Dec.{leb}
-use borrow.Author.Tests.{ltb-true, leb-true, eqb-true}
+use lib.ListN.{length}
+use borrow.Author.Tests.{ltb-true, leb-true}
 use Rattle.terms.specs.Reply.{is}
+use Rattle.terms.specs.Checks.{mostUnits, unitCount}
 use Rattle.terms.proofs.Replies.{need-is, next-is}
 use Rattle.records.specs.declared.day.DayRecord.{DayRecord}
 use Rattle.records.specs.declared.group.GroupRecord.{GroupRecord}
-use Rattle.records.specs.declared.end.EndRecord.{EndRecord}
 use Rattle.records.specs.declared.key.Last.{Last}
-use Rattle.records.specs.Layouts.{dayAt, groupAt, endAt}
-use Rattle.records.specs.Reading.{permitted, aged, follows, keyOf, dayOf, dayFieldsOf, groupOf, groupFieldsOf, endOf, endFieldsOf}
-use Rattle.records.proofs.Heads.{Headed, headed}
+use Rattle.records.specs.Layouts.{dayKind, dayLength, dayAt, groupAt}
+use Rattle.records.specs.Longest.{longestBlock}
+use Rattle.records.specs.Reading.{permitted, follows, keyOf, dayHeadOf, dayEnd, dayOf, dayFieldsOf, groupHeadOf, groupOf, groupFieldsOf}
+use Rattle.records.proofs.Heads.{headed, head-end}
 use Rattle.records.proofs.Checks.{both}
 
+-- ---- the day record
+pub day-short : (s : List ℕ) → dayEnd s ≤ longestBlock
+day-short s = omega arith
+
+module _ (s : List ℕ) {end : ℕ} (e : dayHeadOf s ≡ is end) where
+  pub day-ends : dayEnd s ≡ end
+  day-ends = head-end s 0 dayKind dayLength e
+
+  pub day-long : dayEnd s ≤ length s
+  day-long = headed s 0 dayKind dayLength e .long
+
 pub record DayRead (s : List ℕ) (d : DayRecord) : Type 0 where
-  pub head : Headed s 0 1 12
+  pub end : ℕ
+  pub head : dayHeadOf s ≡ is end
+  pub fields : dayFieldsOf s ≡ is d
   pub value : d ≡ dayAt s 0
   pub quarters : permitted (d .quarters) ≡ true
 
@@ -27,46 +43,40 @@ day-read s {d} e =
     let h = next-is _ _ e in
     let q = need-is _ _ _ _ (h .1 .1) in
     let v : d ≡ dayAt s 0 = cc (q .1) in
-    record { head = headed s 0 1 12 (h .1 .0); value = v; quarters = rw v (q .0) }
+    record { end = h .0; head = h .1 .0; fields = h .1 .1; value = v; quarters = rw v (q .0) }
 
-pub record GroupRead (s : List ℕ) (day : DayRecord) (last : Last) (g : GroupRecord) : Type 0 where
-  pub head : Headed s 0 2 10
+-- ---- the group record
+-- its fields passed
+pub record GroupPassed (s : List ℕ) (day : DayRecord) (last : Last) (g : GroupRecord) : Type 0 where
   pub value : g ≡ groupAt s 0
-  pub quarter : g .quarter < day .quarters
-  pub some : 1 ≤ g .count
-  pub most : g .count ≤ 64
-  pub after : follows last (keyOf g) ≡ true
-  pub age : aged (day .run) (g .made) (day .«position_limit») ≡ true
+  pub early : groupAt s 0 .quarter < day .quarters
+  pub counted : unitCount (groupAt s 0 .count) ≡ true
+  pub most : groupAt s 0 .count ≤ mostUnits
+  pub after : follows last (keyOf (groupAt s 0)) ≡ true
 
-pub group-read : (s : List ℕ) (day : DayRecord) (last : Last) {g : GroupRecord} → groupOf s day last ≡ is g → GroupRead s day last g
-unfolding groupOf groupFieldsOf
-group-read s day last {g} e =
-    let h = next-is _ _ e in
-    let q = need-is _ _ _ _ (h .1 .1) in
-    let n = need-is _ _ _ _ (q .1) in
-    let k = need-is _ _ _ _ (n .1) in
-    let m = need-is _ _ _ _ (k .1) in
-    let v : g ≡ groupAt s 0 = cc (m .1) in
-    let b = both (leb 1 (groupAt s 0 .count)) (leb (groupAt s 0 .count) 64) (n .0) in
+pub group-passed : (s : List ℕ) (day : DayRecord) (last : Last) {g : GroupRecord} → groupFieldsOf s day last ≡ is g → GroupPassed s day last g
+unfolding groupFieldsOf
+group-passed s day last e =
+    let quarter = need-is _ _ _ _ e in
+    let count = need-is _ _ _ _ (quarter .1) in
+    let key = need-is _ _ _ _ (count .1) in
+    let age = need-is _ _ _ _ (key .1) in
     record {
-      head = headed s 0 2 10 (h .1 .0);
-      value = v;
-      quarter = rw v (ltb-true _ _ (q .0));
-      some = rw v (leb-true 1 _ (b .0));
-      most = rw v (leb-true _ 64 (b .1));
-      after = rw v (k .0);
-      age = rw v (m .0);
+      value = cc (age .1);
+      early = ltb-true _ _ (quarter .0);
+      counted = count .0;
+      most = leb-true _ mostUnits (both (leb 1 (groupAt s 0 .count)) (leb (groupAt s 0 .count) mostUnits) (count .0) .1);
+      after = key .0;
     }
 
-pub record EndRead (s : List ℕ) (accepted : ℕ) (r : EndRecord) : Type 0 where
-  pub head : Headed s 0 15 5
-  pub value : r ≡ endAt s 0
-  pub groups : r .groups ≡ accepted
+-- and its head
+pub record GroupRead (s : List ℕ) (day : DayRecord) (last : Last) (g : GroupRecord) : Type 0 where
+  pub end : ℕ
+  pub head : groupHeadOf s ≡ is end
+  pub fields : groupFieldsOf s day last ≡ is g
 
-pub end-read : (s : List ℕ) (accepted : ℕ) {r : EndRecord} → endOf s accepted ≡ is r → EndRead s accepted r
-unfolding endOf endFieldsOf
-end-read s accepted {r} e =
+pub group-read : (s : List ℕ) (day : DayRecord) (last : Last) {g : GroupRecord} → groupOf s day last ≡ is g → GroupRead s day last g
+unfolding groupOf
+group-read s day last e =
     let h = next-is _ _ e in
-    let n = need-is _ _ _ _ (h .1 .1) in
-    let v : r ≡ endAt s 0 = cc (n .1) in
-    record { head = headed s 0 15 5 (h .1 .0); value = v; groups = rw v (eqb-true _ _ (n .0)) }
+    record { end = h .0; head = h .1 .0; fields = h .1 .1 }

@@ -1,18 +1,14 @@
--- The units of a block one after another are a reading by steps, which the first refusal ends; what is read, and what is at fault, lies within the bytes.
-use Prim.Native.Nat.{ℕ, _+_, _≤_, _<_}
-use mathlib.Core.Path.{_≡_, refl}
+-- The units of a block one after another are a reading by steps, which the first refusal ends; what is at fault lies within its record.
+use Prim.Native.Nat.{ℕ, _+_, _<_}
+use mathlib.Core.Path.{refl}
 use mathlib.Core.List.{List}
 use native.Mathlib.Omega.{arith}
-use lib.ListN.{length}
-use Rattle.terms.specs.Reply.{Reply, is}
+use Rattle.terms.specs.Reply.{Reply}
 use Rattle.terms.specs.declared.refusal.Fault.{Fault}
 use Rattle.terms.specs.declared.refusal.Fault.the-variants as F
-use Rattle.terms.proofs.Replies.{next-is}
 use Rattle.terms.proofs.FirstRefused.{Steps}
-use Rattle.records.specs.declared.unit.UnitRecord.{UnitRecord}
-use Rattle.records.specs.Layouts.{unitKind, unitLength}
+use Rattle.records.specs.Layouts.{unitLength}
 use Rattle.records.specs.Reading.{faultPlace, unitEnd, unitOf, unitsOf}
-use Rattle.records.proofs.Heads.{headed}
 
 -- what is at fault stands within the record
 pub place-within : (fault : Fault) → faultPlace fault < unitLength
@@ -27,12 +23,6 @@ place-within F.StepDown = omega arith
 place-within F.StepUp = omega arith
 place-within F.Crossed = omega arith
 place-within F.Age = omega arith
-
-module _ (s : List ℕ) (here floor run limit : ℕ) where
-  -- a unit that was read lies whole in the bytes
-  pub unit-long : {u : UnitRecord} → unitOf s here floor run limit ≡ is u → here + unitLength ≤ length s
-  unfolding unitOf
-  unit-long e = headed s here unitKind unitLength (next-is _ _ e .1 .0) .long
 
 -- so many units from a place and a least number on
 abbrev pub unitsAfter : List ℕ → ℕ → ℕ → ℕ × ℕ → ℕ → Reply ℕ

@@ -105,18 +105,21 @@ dayTable d =
     ∷ entry dayMarginLimit (d .«margin_limit»)
     ∷ []
 
+-- the record of these values
+abbrev pub dayWith : ℕ → ℕ → ℕ → ℕ → ℕ → DayRecord
+dayWith day quarters run position-limit margin-limit =
+    record { day = day; quarters = quarters; run = run; «position_limit» = position-limit; «margin_limit» = margin-limit }
+
 unfoldable pub dayAt : List ℕ → ℕ → DayRecord
 dayAt s at =
-    record {
-      day = valueAt s at dayDay;
-      quarters = valueAt s at dayQuarters;
-      run = valueAt s at dayRun;
-      «position_limit» = valueAt s at dayPositionLimit;
-      «margin_limit» = valueAt s at dayMarginLimit;
-    }
+    dayWith (valueAt s at dayDay) (valueAt s at dayQuarters) (valueAt s at dayRun) (valueAt s at dayPositionLimit) (valueAt s at dayMarginLimit)
 
 unfoldable pub dayBytes : DayRecord → List ℕ
 dayBytes d = behind (dayKind ∷ []) (dayTable d)
+
+-- how many bytes a day's record has
+abbrev pub dayLengthOf : DayRecord → ℕ
+dayLengthOf d = dayLength
 
 -- ---- 02h group, 10 bytes
 abbrev pub groupKind : ℕ
@@ -149,15 +152,13 @@ groupTable g =
     ∷ entry groupMade (g .made)
     ∷ []
 
+-- the record of these values
+abbrev pub groupWith : ℕ → ℕ → ℕ → ℕ → ℕ → GroupRecord
+groupWith brp zone quarter count made = record { brp = brp; zone = zone; quarter = quarter; count = count; made = made }
+
 unfoldable pub groupAt : List ℕ → ℕ → GroupRecord
 groupAt s at =
-    record {
-      brp = valueAt s at groupBrp;
-      zone = valueAt s at groupZone;
-      quarter = valueAt s at groupQuarter;
-      count = valueAt s at groupCount;
-      made = valueAt s at groupMade;
-    }
+    groupWith (valueAt s at groupBrp) (valueAt s at groupZone) (valueAt s at groupQuarter) (valueAt s at groupCount) (valueAt s at groupMade)
 
 unfoldable pub groupBytes : GroupRecord → List ℕ
 groupBytes g = behind (groupKind ∷ []) (groupTable g)
@@ -209,19 +210,33 @@ unitTable u =
     ∷ entry unitMade (u .made)
     ∷ []
 
+-- the record of these values
+abbrev pub unitWith : ℕ → ℕ → ℕ → ℕ → ℤ → ℤ → ℤ → ℤ → ℕ → UnitRecord
+unitWith number class coincide nominated n pc step-down step-up made =
+    record {
+      number = number;
+      class = class;
+      coincide = coincide;
+      nominated = nominated;
+      n = record { 0 = n };
+      pc = record { 0 = pc };
+      «step_down» = step-down;
+      «step_up» = step-up;
+      made = made;
+    }
+
 unfoldable pub unitAt : List ℕ → ℕ → UnitRecord
 unitAt s at =
-    record {
-      number = valueAt s at unitNumber;
-      class = valueAt s at unitClass;
-      coincide = valueAt s at unitCoincide;
-      nominated = valueAt s at unitNominated;
-      n = record { 0 = valueAt s at unitN };
-      pc = record { 0 = valueAt s at unitPc };
-      «step_down» = valueAt s at unitStepDown;
-      «step_up» = valueAt s at unitStepUp;
-      made = valueAt s at unitMade;
-    }
+    unitWith
+    (valueAt s at unitNumber)
+    (valueAt s at unitClass)
+    (valueAt s at unitCoincide)
+    (valueAt s at unitNominated)
+    (valueAt s at unitN)
+    (valueAt s at unitPc)
+    (valueAt s at unitStepDown)
+    (valueAt s at unitStepUp)
+    (valueAt s at unitMade)
 
 unfoldable pub unitBytes : UnitRecord → List ℕ
 unitBytes u = behind (unitKind ∷ []) (unitTable u)

@@ -3,8 +3,12 @@ use Prim.Native.Nat.{ℕ, _+_, _*_}
 use Rattle.terms.specs.Checks.{mostUnits}
 use Rattle.records.specs.Layouts.{groupLength, unitLength, groupResultLength, unitResultLength}
 
+-- no unit record is longer
+abbrev pub longestUnit : ℕ
+longestUnit = unitLength
+
 abbrev pub longestBlock : ℕ
-longestBlock = groupLength + unitLength * mostUnits
+longestBlock = groupLength + longestUnit * mostUnits
 
 abbrev pub longestResult : ℕ
 longestResult = groupResultLength + unitResultLength * mostUnits

@@ -22,7 +22,7 @@ use Rattle.records.specs.declared.end.EndRecord.{EndRecord}
 use Rattle.records.specs.declared.key.Key.{Key}
 use Rattle.records.specs.declared.key.Last.{Last}
 use Rattle.records.specs.declared.key.Last.the-variants.{Nothing, Block}
-use Rattle.records.specs.Layouts.{dayKind, dayLength, dayQuarters, dayAt}
+use Rattle.records.specs.Layouts.{dayKind, dayLength, dayQuarters, dayAt, dayLengthOf}
 use Rattle.records.specs.Layouts.{groupKind, groupLength, groupBrp, groupQuarter, groupCount, groupMade, groupAt}
 use Rattle.records.specs.Layouts.{unitKind, unitLength, unitAt, lengthOf, marginsOf}
 use Rattle.records.specs.Layouts.{unitNumber, unitClass, unitCoincide, unitNominated, unitN, unitPc, unitStepDown, unitStepUp, unitMade}
@@ -48,8 +48,15 @@ permitted quarters = eqb quarters 92 || (eqb quarters 96 || eqb quarters 100)
 unfoldable pub dayFieldsOf : List ℕ → Reply DayRecord
 dayFieldsOf s = need (permitted (dayAt s 0 .quarters)) 3 (dayQuarters .place) (is (dayAt s 0))
 
+-- the head of the day record at the front, and where that record ends
+abbrev pub dayHeadOf : List ℕ → Reply ℕ
+dayHeadOf s = headOf s 0 dayKind dayLength
+
+abbrev pub dayEnd : List ℕ → ℕ
+dayEnd s = dayLengthOf (dayAt s 0)
+
 unfoldable pub dayOf : List ℕ → Reply DayRecord
-dayOf s = next (headOf s 0 dayKind dayLength) λ _. dayFieldsOf s
+dayOf s = next (dayHeadOf s) λ _. dayFieldsOf s
 
 -- ---- the group record
 -- blocks rise strictly by (BRP, zone, quarter)
@@ -76,15 +83,21 @@ groupFieldsOf s day last =
     (need (aged (day .run) (groupAt s 0 .made) (day .«position_limit»)) 10 (groupMade .place)
     (is (groupAt s 0)))))
 
+abbrev pub groupHeadOf : List ℕ → Reply ℕ
+groupHeadOf s = headOf s 0 groupKind groupLength
+
 unfoldable pub groupOf : List ℕ → DayRecord → Last → Reply GroupRecord
-groupOf s day last = next (headOf s 0 groupKind groupLength) λ _. groupFieldsOf s day last
+groupOf s day last = next (groupHeadOf s) λ _. groupFieldsOf s day last
 
 -- ---- the end record
 unfoldable pub endFieldsOf : List ℕ → ℕ → Reply EndRecord
 endFieldsOf s groups = need (eqb (endAt s 0 .groups) groups) 14 (endGroups .place) (is (endAt s 0))
 
+abbrev pub endHeadOf : List ℕ → Reply ℕ
+endHeadOf s = headOf s 0 endKind endLength
+
 unfoldable pub endOf : List ℕ → ℕ → Reply EndRecord
-endOf s groups = next (headOf s 0 endKind endLength) λ _. endFieldsOf s groups
+endOf s groups = next (endHeadOf s) λ _. endFieldsOf s groups
 
 -- ---- the unit records of a block
 -- the head of the unit record that is to begin at a place

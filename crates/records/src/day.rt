@@ -4,8 +4,8 @@ ghost use Prim.Native.Nat.{_≤_};
 ghost use lib.ListN.{length};
 ghost use Rattle.terms.specs.Reply.{is, need};
 ghost use Rattle.records.specs.Answers.{byteReply, dayReply, dayRefusal};
-ghost use Rattle.records.specs.Layouts.{dayLength, dayQuarters, dayAt};
-ghost use Rattle.records.specs.Reading.{permitted, dayFieldsOf, dayOf};
+ghost use Rattle.records.specs.Layouts.{dayQuarters, dayWith, dayAt};
+ghost use Rattle.records.specs.Reading.{permitted, dayEnd, dayFieldsOf, dayOf};
 use crate::field::ByteAnswer;
 use crate::head::head;
 use numbers::bytes::u16_at;
@@ -52,7 +52,7 @@ impl DayRecord {
         position_limit: u16,
         margin_limit: u16,
     ) -> DayRecord
-        ensures { λ r. ⌜ r ≡ record { day = day; quarters = quarters; run = run; «position_limit» = «position_limit»; «margin_limit» = «margin_limit» } ⌝ }
+        ensures { λ r. ⌜ r ≡ dayWith day quarters run «position_limit» «margin_limit» ⌝ }
     {
         DayRecord {
             day,
@@ -94,7 +94,7 @@ impl DayAnswer {
 }
 
 fn quarters_at(s: &[u8]) -> ByteAnswer
-    requires { ⌜ dayLength ≤ length (now s) ⌝ }
+    requires { ⌜ dayEnd (now s) ≤ length (now s) ⌝ }
     ensures { λ r. ⌜ byteReply r ≡ need (permitted (dayAt (now (s .entry)) 0 .quarters)) 3 (dayQuarters .place) (is (dayAt (now (s .entry)) 0 .quarters)) ⌝ }
 {
     let quarters = s[DayRecord::QUARTERS];
@@ -109,7 +109,7 @@ fn quarters_at(s: &[u8]) -> ByteAnswer
 
 // The fields of a day record that is there whole.
 pub fn day_fields(s: &[u8]) -> DayAnswer
-    requires { ⌜ dayLength ≤ length (now s) ⌝ }
+    requires { ⌜ dayEnd (now s) ≤ length (now s) ⌝ }
     ensures { λ r. ⌜ dayReply r ≡ dayFieldsOf (now (s .entry)) ⌝ }
 {
     let q = quarters_at(s);

@@ -6,7 +6,7 @@ ghost use lib.ListN.{length};
 ghost use Rattle.terms.specs.Reply.{is, need};
 ghost use Rattle.terms.specs.Checks.{unitCount};
 ghost use Rattle.records.specs.Answers.{byteReply, numberReply, keyReply, groupReply, groupRefusal};
-ghost use Rattle.records.specs.Layouts.{groupLength, groupBrp, groupQuarter, groupCount, groupMade, groupAt};
+ghost use Rattle.records.specs.Layouts.{groupLength, groupBrp, groupQuarter, groupCount, groupMade, groupWith, groupAt};
 ghost use Rattle.records.specs.Reading.{aged, follows, keyOf, groupFieldsOf, groupOf};
 use crate::age::is_aged;
 use crate::day::DayRecord;
@@ -51,7 +51,7 @@ impl GroupRecord {
     pub const UNITS: usize = terms::check::UNITS;
 
     pub fn new(brp: u16, zone: u8, quarter: u8, count: u8, made: u32) -> GroupRecord
-        ensures { λ r. ⌜ r ≡ record { brp = brp; zone = zone; quarter = quarter; count = count; made = made } ⌝ }
+        ensures { λ r. ⌜ r ≡ groupWith brp zone quarter count made ⌝ }
     {
         GroupRecord {
             brp,

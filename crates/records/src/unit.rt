@@ -1,8 +1,8 @@
 // The unit record, 03h.
 ghost use mathlib.Core.Path.{_≡_};
-ghost use Prim.Native.Nat.{_+_, _≤_};
+ghost use Prim.Native.Nat.{_≤_};
 ghost use lib.ListN.{length};
-ghost use Rattle.records.specs.Layouts.{unitLength, unitAt, lengthOf, marginsOf};
+ghost use Rattle.records.specs.Layouts.{unitWith, unitAt, lengthOf, marginsOf};
 ghost use Rattle.records.specs.Reading.{faultPlace, unitEnd};
 use numbers::bytes::i32_at;
 use numbers::bytes::u16_at;
@@ -61,7 +61,7 @@ impl UnitRecord {
         step_up: i32,
         made: u32,
     ) -> UnitRecord
-        ensures { λ r. ⌜ r ≡ record { number = number; class = class; coincide = coincide; nominated = nominated; n = n; pc = pc; «step_down» = «step_down»; «step_up» = «step_up»; made = made } ⌝ }
+        ensures { λ r. ⌜ r ≡ unitWith number class coincide nominated (n .0) (pc .0) «step_down» «step_up» made ⌝ }
     {
         UnitRecord {
             number,
@@ -115,7 +115,7 @@ impl UnitRecord {
 
 // The fields of a unit record that is there whole.
 pub fn unit_fields(s: &[u8], at: usize) -> UnitRecord
-    requires { ⌜ at + unitLength ≤ length (now s) ⌝ }
+    requires { ⌜ unitEnd (now s) at ≤ length (now s) ⌝ }
     ensures { λ r. ⌜ r ≡ unitAt (now (s .entry)) at ⌝ }
 {
     let number = u16_at(s, at + UnitRecord::NUMBER);
@@ -142,7 +142,7 @@ pub fn unit_fields(s: &[u8], at: usize) -> UnitRecord
 
 // Where the unit record that begins at a place, and is there whole, ends.
 pub fn unit_end(s: &[u8], at: usize) -> usize
-    requires { ⌜ at + unitLength ≤ length (now s) ⌝ }
+    requires { ⌜ unitEnd (now s) at ≤ length (now s) ⌝ }
     ensures { λ r. ⌜ r ≡ unitEnd (now (s .entry)) at ⌝ }
 {
     at + UnitRecord::LEN

@@ -1,12 +1,11 @@
 // The units of a block, read one after another.
 ghost use mathlib.Core.Path.{_≡_};
-ghost use Prim.Native.Nat.{_+_, _≤_};
+ghost use Prim.Native.Nat.{_≤_};
 ghost use lib.ListN.{length};
 ghost use Rattle.terms.specs.Refusals.{answer};
 ghost use Rattle.records.specs.Answers.{unitReply, unitRefusal};
-ghost use Rattle.records.specs.Layouts.{unitLength};
 ghost use Rattle.records.specs.Inner.{isWhole};
-ghost use Rattle.records.specs.Reading.{unitHeadOf, unitFieldsOf, unitOf, unitsOf};
+ghost use Rattle.records.specs.Reading.{unitHeadOf, unitEnd, unitFieldsOf, unitOf, unitsOf};
 use crate::faults::unit_faults;
 use crate::head::head;
 use crate::unit::UnitRecord;
@@ -58,7 +57,7 @@ pub fn unit_head(s: &[u8], at: usize) -> Answer
 
 // A unit record that is there whole, judged.
 fn unit_judged(s: &[u8], at: usize, floor: u32, run: u32, limit: u16) -> UnitAnswer
-    requires { ⌜ at + unitLength ≤ length (now s) ⌝ }
+    requires { ⌜ unitEnd (now s) at ≤ length (now s) ⌝ }
     ensures { λ r. ⌜ unitReply r ≡ unitFieldsOf (now (s .entry)) at floor run limit ⌝ }
 {
     let u = unit_fields(s, at);

@@ -5,7 +5,7 @@ use mathlib.Core.List.{List, [], _∷_}
 use lib.Dec.{eqb, ltb}
 use lib.ListN.{length, getD, take}
 use Rattle.numbers.specs.Choice.{pick}
-use Rattle.records.specs.Layouts.{dayKind, groupKind, unitKind, endKind}
+use Rattle.records.specs.Layouts.{dayKind, dayWith, groupWith, unitWith, groupKind, unitKind, endKind}
 use Rattle.text.specs.declared.line.Line.{Line}
 use Rattle.text.specs.declared.line.Line.the-variants.{Day, Group, Unit, End, Passed, TooLong, Not}
 use Rattle.text.specs.Numbers.{fieldOf}
@@ -44,14 +44,7 @@ dayOf text at =
     let position-limit = u16At text (run .next) in
     let margin-limit = u16At text (position-limit .next) in
     ended text (margin-limit .next) dayKind
-    (Day
-    (record {
-      day = day .value;
-      quarters = quarters .value;
-      run = run .value;
-      «position_limit» = position-limit .value;
-      «margin_limit» = margin-limit .value;
-    }))
+    (Day (dayWith (day .value) (quarters .value) (run .value) (position-limit .value) (margin-limit .value)))
 
 unfoldable pub groupOf : List ℕ → ℕ → Line
 groupOf text at =
@@ -61,8 +54,7 @@ groupOf text at =
     let count = u8At text (quarter .next) in
     let made = u32At text (count .next) in
     ended text (made .next) groupKind
-    (Group
-    (record { brp = brp .value; zone = zone .value; quarter = quarter .value; count = count .value; made = made .value }))
+    (Group (groupWith (brp .value) (zone .value) (quarter .value) (count .value) (made .value)))
 
 unfoldable pub unitOf : List ℕ → ℕ → Line
 unitOf text at =
@@ -77,17 +69,16 @@ unitOf text at =
     let made = u32At text (step-up .next) in
     ended text (made .next) unitKind
     (Unit
-    (record {
-      number = number .value;
-      class = class .value;
-      coincide = coincide .value;
-      nominated = nominated .value;
-      n = record { 0 = n .value };
-      pc = record { 0 = pc .value };
-      «step_down» = step-down .value;
-      «step_up» = step-up .value;
-      made = made .value;
-    }))
+    (unitWith
+    (number .value)
+    (class .value)
+    (coincide .value)
+    (nominated .value)
+    (n .value)
+    (pc .value)
+    (step-down .value)
+    (step-up .value)
+    (made .value)))
 
 unfoldable pub endOf : List ℕ → ℕ → Line
 endOf text at =

@@ -15,7 +15,7 @@ use Rattle.records.specs.declared.day.DayRecord.{DayRecord}
 use Rattle.records.specs.declared.group.GroupRecord.{GroupRecord}
 use Rattle.records.specs.declared.unit.UnitRecord.{UnitRecord}
 use Rattle.records.specs.declared.end.EndRecord.{EndRecord}
-use Rattle.records.specs.Layouts.{dayKind, dayBytes, groupKind, groupLength, groupBytes, unitKind, unitLength, unitBytes, endKind, endBytes}
+use Rattle.records.specs.Layouts.{dayKind, dayBytes, groupKind, groupLength, groupBytes, unitKind, unitBytes, lengthOf, endKind, endBytes}
 use Rattle.terms.specs.Checks.{unitCount}
 use Rattle.records.specs.Reading.{valueFaults}
 use Rattle.writers.specs.Writing.{laid, writeDayOf, writeEndOf}
@@ -82,12 +82,12 @@ wholeMade (Fault number line) bytes = Refused number line
 -- a unit lies where the one before ends, and its number is above that of the one before
 unfoldable pub unitMade : Block → UnitRecord → Found → Made
 unitMade b u found =
-    pick (leb (b .left) 1) (wholeMade found (b .here + unitLength))
-    (On (Within (record { left = b .left - 1; here = b .here + unitLength; floor = u .number + 1; found = found })))
+    pick (leb (b .left) 1) (wholeMade found (b .here + lengthOf u))
+    (On (Within (record { left = b .left - 1; here = b .here + lengthOf u; floor = u .number + 1; found = found })))
 
 unfoldable pub unitTurn : Block → UnitRecord → ℕ → List ℕ → Turn
 unitTurn b u line room =
-    pick (leb (b .here + unitLength) (length room))
+    pick (leb (b .here + lengthOf u) (length room))
     (turn (unitMade b u (foundOf (b .found) (valueFaults u (b .floor)) line)) (laidAt room (b .here) (unitBytes u)))
     (turn (Refused 12 line) room)
 

@@ -149,10 +149,11 @@ fn unit(b: Block, u: UnitRecord, line: u64, room: &mut [u8]) -> Made
     ensures { λ r. ⌜ Turns (unitTurn b u line (now (room .entry))) r (now (room .exit)) ⌝ }
 {
     let here = b.here;
-    if !has_room(room.len(), here, UnitRecord::LEN) {
+    let length = u.length();
+    if !has_room(room.len(), here, length) {
         return Made::Refused(12, line);
     }
-    let next = here + UnitRecord::LEN;
+    let next = here + length;
     lay_unit(room, here, u);
     let before = b.found;
     let found = found_in(before, u, b.floor, line);

@@ -1,5 +1,5 @@
 -- The table's rule, shown once for all its entries: a table that computes to the columns of bodies has each body at its row and kind.
-use Prim.Native.Nat.{ℕ, _-_, _≤_, _<_}
+use Prim.Native.Nat.{ℕ, _+_, _≤_, _<_}
 use mathlib.Core.Path.{_≡_, refl}
 use mathlib.Core.List.{List, []}
 use native.Mathlib.Omega.{arith}
@@ -9,7 +9,8 @@ use lib.ListN.{getD}
 use Rattle.numbers.specs.Column.{column}
 use Rattle.numbers.proofs.Choices.{pick-ind}
 use Rattle.numbers.proofs.Columns.{column-at}
-use Rattle.records.specs.Layouts.{dayKind, dayLength, groupKind, endKind}
+use Rattle.records.specs.Layouts.{dayKind, groupKind, endKind}
+use Rattle.records.specs.Longest.{longestBlock}
 use Rattle.walk.specs.declared.table.State.{State}
 use Rattle.walk.specs.declared.table.State.the-variants.{Fresh, Open, Closed}
 use Rattle.walk.specs.Table.{body, bodyOf, rowOf, rows}
@@ -34,10 +35,10 @@ body-past Fresh kind h = rw (ne-eqb kind dayKind (λ e. omega arith))
 body-past Open kind h = rw (ne-eqb kind groupKind (λ e. omega arith), ne-eqb kind endKind (λ e. omega arith))
 body-past Closed kind h = refl
 
--- no body is longer than a day record's
-pub body-short : (state : State) (kind : ℕ) → bodyOf state kind ≤ dayLength - 1
-body-short Fresh kind = pick-ind (eqb kind dayKind) _ _ (λ e. body e ≤ dayLength - 1) (λ _. omega arith) (λ _. omega arith)
+-- no record is longer than the longest block
+pub body-short : (state : State) (kind : ℕ) → 1 + bodyOf state kind ≤ longestBlock
+body-short Fresh kind = pick-ind (eqb kind dayKind) _ _ (λ e. 1 + body e ≤ longestBlock) (λ _. omega arith) (λ _. omega arith)
 body-short Open kind =
-    pick-ind (eqb kind groupKind) _ _ (λ e. body e ≤ dayLength - 1) (λ _. omega arith)
-    (λ _. pick-ind (eqb kind endKind) _ _ (λ e. body e ≤ dayLength - 1) (λ _. omega arith) (λ _. omega arith))
+    pick-ind (eqb kind groupKind) _ _ (λ e. 1 + body e ≤ longestBlock) (λ _. omega arith)
+    (λ _. pick-ind (eqb kind endKind) _ _ (λ e. 1 + body e ≤ longestBlock) (λ _. omega arith) (λ _. omega arith))
 body-short Closed kind = omega arith

@@ -11,8 +11,9 @@ use Rattle.numbers.specs.Bytes.{byteAt}
 use Rattle.numbers.specs.Choice.{pick}
 use Rattle.terms.specs.Reply.{Reply, is, need, next}
 use Rattle.terms.proofs.Replies.{need-is}
-use Rattle.records.specs.Layouts.{dayKind, dayLength, groupKind, groupLength, endKind, endLength}
-use Rattle.records.specs.Reading.{headOf}
+use Rattle.records.specs.Layouts.{dayKind, dayLength, dayAt, dayLengthOf, groupKind, groupLength, endKind, endLength}
+use Rattle.records.specs.Reading.{headOf, dayHeadOf, groupHeadOf, endHeadOf}
+use Rattle.records.proofs.Heads.{headed}
 use Rattle.walk.specs.declared.table.State.{State}
 use Rattle.walk.specs.declared.table.State.the-variants.{Fresh, Open, Closed}
 use Rattle.walk.specs.declared.table.Role.{Role}
@@ -61,12 +62,23 @@ block-open state role (theDay p q) k =
 block-open state role (aGroup p q) k = p
 block-open state role (theEnd p q) k = p
 
+-- how long the record is that stands at a place as this to the day
+abbrev pub lengthIn : Role → List ℕ → ℕ → ℕ
+lengthIn Opens s at = dayLengthOf (dayAt s at)
+lengthIn Block s at = groupLength
+lengthIn Closes s at = endLength
+
+fixed-in : (s : List ℕ) (at : ℕ) (role : Role) → lengthAs role ≡ lengthIn role s at
+fixed-in s at Opens = refl
+fixed-in s at Block = refl
+fixed-in s at Closes = refl
+
 pub record Came (s : List ℕ) (at : ℕ) (state : State) (h : Head) : Type 0 where
   pub first : roleOf (byteAt s at) ≡ h .role
   pub may : mayCome state (byteAt s at) ≡ true
   pub which : Coming state (h .role)
   pub past : h .end ≡ at + (1 + bodyOf state (byteAt s at))
-  pub end : h .end ≡ at + lengthAs (h .role)
+  pub end : h .end ≡ at + lengthIn (h .role) s at
   pub long : h .end ≤ length s
 
 next-need : {A B : Type 0} (t : Bool) (n p : ℕ) (x : Reply A) (rest : A → Reply B) → next (need t n p x) rest ≡ need t n p (next x rest)
@@ -89,7 +101,7 @@ module _ (s : List ℕ) (at : ℕ) (state : State) where
         may = b .0;
         which = rw (← k) (r .which);
         past = sym n;
-        end = rw (← k) (sym n ∙ ap (λ (x : ℕ). at + x) (r .fixed));
+        end = rw (← k) (sym n ∙ ap (λ (x : ℕ). at + x) (r .fixed ∙ fixed-in s at (roleOf (byteAt s at))));
         long = omega (arith, leb-true (at + (1 + bodyOf state (byteAt s at))) (length s) (d .0));
       }
 
@@ -97,15 +109,31 @@ module _ (s : List ℕ) (at : ℕ) (state : State) where
   pub group-whole : (h : Head) → headIn s at state ≡ is h → isBlock (h .role) ≡ true → at + groupLength ≤ length s
   group-whole h e k =
       let m = came h e in
-      let n : h .end ≡ at + groupLength = m .end ∙ ap (λ (x : Role). at + lengthAs x) (is-block (h .role) k) in
+      let n : h .end ≡ at + groupLength = m .end ∙ ap (λ (x : Role). at + lengthIn x s at) (is-block (h .role) k) in
       omega (arith, m .long)
 
   -- where a kind may come and has come, its head by the table is its head by its kind and length
-  pub head-of : (kind : ℕ) → mayCome state kind ≡ true → byteAt s at ≡ kind
+  head-of : (kind : ℕ) → mayCome state kind ≡ true → byteAt s at ≡ kind
       → headIn s at state ≡ next (headOf s at kind (1 + bodyOf state kind)) λ end. is (record { role = roleOf kind; end = end })
   unfolding headIn headOf need next
   head-of kind c k =
       simp (k, c, eq-eqb kind kind refl, next-need {A = ℕ} {B = Head})
+
+-- a record whose own head was read comes to the day that takes it
+module _ (s : List ℕ) {end : ℕ} where
+  by-kind : (state : State) (kind len : ℕ) → mayCome state kind ≡ true → 1 + bodyOf state kind ≡ len → headOf s 0 kind len ≡ is end
+      → headIn s 0 state ≡ is (record { role = roleOf kind; end = end })
+  unfolding next
+  by-kind state kind len may fixed e = head-of s 0 state kind may (headed s 0 kind len e .first) ∙ rw (fixed, e)
+
+  pub day-comes : dayHeadOf s ≡ is end → headIn s 0 Fresh ≡ is (record { role = Opens; end = end })
+  day-comes e = by-kind Fresh dayKind dayLength refl refl e
+
+  pub group-comes : groupHeadOf s ≡ is end → headIn s 0 Open ≡ is (record { role = Block; end = end })
+  group-comes e = by-kind Open groupKind groupLength refl refl e
+
+  pub end-comes : endHeadOf s ≡ is end → headIn s 0 Open ≡ is (record { role = Closes; end = end })
+  end-comes e = by-kind Open endKind endLength refl refl e
 
 -- a block by its head: it is one by the table, it comes, and its group record is there whole
 pub record BlockCame (s : List ℕ) (at : ℕ) (state : State) (h : Head) : Type 0 where

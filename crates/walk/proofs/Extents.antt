@@ -27,7 +27,7 @@ ends s at state h end e w = go (isBlock (h .role)) refl w
     go : (g : Bool) → isBlock (h .role) ≡ g → pick g (blockEndOf s at) (is (h .end)) ≡ is end → (at < end) × (end ≤ length s)
     go true g w =
         let m = block-run s at (group-whole s at state h e g) w in
-        (omega (arith, m .run), m .within)
+        (omega (arith, m .onward), m .within)
     go false g w =
         let m = came s at state h e in
         let q : h .end ≡ end = cc in

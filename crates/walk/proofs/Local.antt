@@ -1,17 +1,16 @@
 -- A step that gave an extent reads no byte past it: where the bytes agree up to its end, it gives the same.
-use Prim.Native.Nat.{ℕ, zero, suc, _+_, _-_, _≤_, _<_}
+use Prim.Native.Nat.{ℕ, zero, suc, _+_, _-_, _≤_}
 use mathlib.Core.Path.{_≡_, refl, sym, ap, _∙_}
 use mathlib.Core.List.{List}
 use native.Mathlib.Omega.{arith}
-use borrow.Author.Tests.{lt-ltb, le-leb, eq-eqb}
-use lib.ListN.{length, take, length-take}
-use lib.Seq.{getD-take}
+use lib.ListN.{length, take}
 use Rattle.numbers.specs.Bytes.{byteAt}
 use Rattle.terms.specs.Reply.{is, need, next}
 use Rattle.terms.proofs.Replies.{next-is}
-use Rattle.records.specs.Layouts.{groupLength, groupCount, groupAt, unitKind, unitLength}
-use Rattle.records.specs.Reading.{headOf, unitHeadOf}
-use Rattle.records.proofs.Heads.{headed}
+use Rattle.records.specs.Layouts.{groupLength, groupCount, groupAt}
+use Rattle.records.specs.Reading.{unitHeadOf}
+use Rattle.records.proofs.UnitHeads.{read-end, read-long}
+use Rattle.records.proofs.Alike.{Agree, agree, unit-head-kept}
 use Rattle.walk.specs.declared.table.State.{State}
 use Rattle.walk.specs.declared.table.State.the-variants.{Fresh, Open}
 use Rattle.walk.specs.declared.table.Head.{Head}
@@ -21,42 +20,24 @@ use Rattle.walk.specs.Walk.{extent, headsOf, blockEndOf, wholeOf, stepOf
 use Rattle.walk.proofs.Coming.{came, group-whole, head-moved}
 use Rattle.walk.proofs.Extents.{lies}
 use Rattle.walk.proofs.Gives.{Given, aDay, aBlock, anEnd, given, step-of}
-use Rattle.walk.proofs.UnitHeads.{head-end, heads-lie, block-is, block-run}
-
--- t has the first n bytes of s
-pub record Agree (s t : List ℕ) (n : ℕ) : Type 0 where
-  pub long : n ≤ length t
-  pub same : (i : ℕ) → i < n → byteAt t i ≡ byteAt s i
-
-pub agree : (s t : List ℕ) (n : ℕ) → n ≤ length s → take n s ≡ take n t → Agree s t n
-agree s t n h e =
-    record { long = omega (arith, h, length-take n s, length-take n t, ap length e); same = λ i l. sym (getD-take n t i 0 l) ∙ ap (λ (x : List ℕ). byteAt x i) (sym e) ∙ getD-take n s i 0 l }
+use Rattle.walk.proofs.UnitHeads.{heads-lie, block-is, block-run}
 
 module _ (s t : List ℕ) (n : ℕ) (a : Agree s t n) where
-  head-local : (at kind len : ℕ) {end : ℕ} → 0 < len → headOf s at kind len ≡ is end → end ≤ n → headOf t at kind len ≡ is end
-  unfolding headOf need
-  head-local at kind len {end} p e h =
-      let m = headed s at kind len e in
-      let q = head-end s at kind len e in
-      let b = a .same at (omega arith) ∙ m .first in
-      simp (b, eq-eqb kind kind refl, lt-ltb at (length t) (omega (arith, a .long)), q, le-leb end (length t) (omega (arith, a .long)))
-
   heads-local : (at count : ℕ) {end : ℕ} → at ≤ length s → headsOf s at count ≡ is end → end ≤ n → headsOf t at count ≡ is end
   unfolding headsOf next
   heads-local at zero k e h = e
   heads-local at (suc count) {end} k e h =
       let x = next-is (unitHeadOf s at) (λ end. headsOf s end count) e in
-      let m = headed s at unitKind unitLength (x .1 .0) in
-      let q = head-end s at unitKind unitLength (x .1 .0) in
-      let r = heads-lie s (x .0) count (omega (arith, m .long)) (x .1 .1) in
-      rw (head-local at unitKind unitLength (omega arith) (x .1 .0) (omega (arith, r .run))) (heads-local (x .0) count (omega (arith, m .long)) (x .1 .1) h)
+      let inside : x .0 ≤ length s = omega (arith, read-end s at (x .1 .0), read-long s at (x .1 .0)) in
+      let r = heads-lie s (x .0) count inside (x .1 .1) in
+      rw (unit-head-kept s t n a at (omega (arith, r .onward)) (x .1 .0)) (heads-local (x .0) count inside (x .1 .1) h)
 
   block-local : (at : ℕ) {end : ℕ} → at + groupLength ≤ length s → blockEndOf s at ≡ is end → end ≤ n → blockEndOf t at ≡ is end
   unfolding blockEndOf groupAt need
   block-local at {end} k e h =
       let r = block-run s at k e in
       let count = at + groupCount .place in
-      let same = a .same count (omega (arith, r .run)) in
+      let same = a .same count (omega (arith, r .onward)) in
       let x = block-is s at e in
       rw (same, x .0) (heads-local (at + groupLength) (byteAt s count) k (x .1) h)
 
@@ -79,5 +60,5 @@ step-local s t state place e q same =
         let long = group-whole s place Open _ h refl in
         let m = came s place Open _ h in
         let r = block-run s place long b in
-        step-of t Open place end _ (record-local s t _ a place Open h (omega (arith, m .end, r .run))) (block-local s t _ a place long b (omega arith))
+        step-of t Open place end _ (record-local s t _ a place Open h (omega (arith, m .end, r .onward))) (block-local s t _ a place long b (omega arith))
     go (anEnd end h) a = step-of t Open place end _ (record-local s t _ a place Open h (omega arith)) refl

@@ -1,5 +1,5 @@
 -- The heads of units one after another are a reading by steps, which the first refusal ends; those that were all read lie within the bytes.
-use Prim.Native.Nat.{ℕ, zero, suc, _+_, _*_, _≤_}
+use Prim.Native.Nat.{ℕ, zero, suc, _+_, _≤_}
 use mathlib.Core.Path.{_≡_, refl}
 use mathlib.Core.Bool.{true}
 use mathlib.Core.List.{List}
@@ -8,10 +8,10 @@ use lib.ListN.{length}
 use Rattle.terms.specs.Reply.{is}
 use Rattle.terms.proofs.Replies.{need-is, next-is}
 use Rattle.terms.proofs.FirstRefused.{Steps}
-use Rattle.records.specs.Layouts.{groupLength, groupAt, unitKind, unitLength}
+use Rattle.records.specs.Layouts.{groupLength, groupAt}
 use Rattle.terms.specs.Checks.{unitCount}
-use Rattle.records.specs.Reading.{headOf, unitHeadOf}
-use Rattle.records.proofs.Heads.{headed}
+use Rattle.records.specs.Reading.{unitHeadOf}
+use Rattle.records.proofs.UnitHeads.{unit-past, read-end, read-long}
 use Rattle.walk.specs.Walk.{headsOf, blockEndOf}
 
 -- each unit's head is a step, and the next is read where it ends
@@ -19,31 +19,21 @@ pub heads-steps : (s : List ℕ) → Steps (unitHeadOf s) (λ here end. end) (λ
 unfolding headsOf
 heads-steps s = record { none = λ here. refl; more = λ here left. refl }
 
--- a record whose head was read ends after its length
-pub head-end : (s : List ℕ) (at kind len : ℕ) {end : ℕ} → headOf s at kind len ≡ is end → at + len ≡ end
-unfolding headOf
-head-end s at kind len e =
-    let x = need-is _ _ _ _ e in
-    let y = need-is _ _ _ _ (x .1) in
-    let z = need-is _ _ _ _ (y .1) in
-    cc
-
 -- heads that were all read lie one after another within the bytes
-pub record Run (s : List ℕ) (at count end : ℕ) : Type 0 where
-  pub run : end ≡ at + unitLength * count
+pub record Run (s : List ℕ) (at end : ℕ) : Type 0 where
+  pub onward : at ≤ end
   pub within : end ≤ length s
 
-pub heads-lie : (s : List ℕ) (at count : ℕ) {end : ℕ} → at ≤ length s → headsOf s at count ≡ is end → Run s at count end
+pub heads-lie : (s : List ℕ) (at count : ℕ) {end : ℕ} → at ≤ length s → headsOf s at count ≡ is end → Run s at end
 unfolding headsOf
 heads-lie s at zero {end} h e =
     let q : at ≡ end = cc in
-    record { run = omega arith; within = omega arith }
+    record { onward = omega arith; within = omega arith }
 heads-lie s at (suc count) {end} h e =
     let a = next-is (unitHeadOf s at) (λ end. headsOf s end count) e in
-    let m = headed s at unitKind unitLength (a .1 .0) in
-    let q = head-end s at unitKind unitLength (a .1 .0) in
-    let r = heads-lie s (a .0) count (omega (arith, m .long)) (a .1 .1) in
-    record { run = omega (arith, r .run); within = r .within }
+    let q = read-end s at (a .1 .0) in
+    let r = heads-lie s (a .0) count (omega (arith, read-long s at (a .1 .0))) (a .1 .1) in
+    record { onward = omega (arith, unit-past s at, r .onward); within = r .within }
 
 -- a block that was read has a count that passed, and the heads of its units
 pub block-is : (s : List ℕ) (at : ℕ) {end : ℕ} → blockEndOf s at ≡ is end
@@ -51,5 +41,5 @@ pub block-is : (s : List ℕ) (at : ℕ) {end : ℕ} → blockEndOf s at ≡ is 
 unfolding blockEndOf
 block-is s at e = need-is _ _ _ _ e
 
-pub block-run : (s : List ℕ) (at : ℕ) {end : ℕ} → at + groupLength ≤ length s → blockEndOf s at ≡ is end → Run s (at + groupLength) (groupAt s at .count) end
+pub block-run : (s : List ℕ) (at : ℕ) {end : ℕ} → at + groupLength ≤ length s → blockEndOf s at ≡ is end → Run s (at + groupLength) end
 block-run s at h e = heads-lie s (at + groupLength) (groupAt s at .count) h (block-is s at e .1)

@@ -1,5 +1,5 @@
 -- What a writer accepted, read by the layouts, gives the values that it was given, and a day that takes the group and the ages accepts it.
-use Prim.Native.Nat.{ℕ, zero, suc, _+_, _*_, _<_}
+use Prim.Native.Nat.{ℕ, zero, suc, _+_, _*_, _≤_, _<_}
 use mathlib.Core.Path.{_≡_, refl, sym, ap, _∙_}
 use mathlib.Core.Bool.{true}
 use mathlib.Core.List.{List, _++_, append-assoc}
@@ -19,9 +19,9 @@ use Rattle.records.specs.declared.unit.UnitRecord.{UnitRecord}
 use Rattle.records.specs.declared.end.EndRecord.{EndRecord}
 use Rattle.records.specs.declared.group_result.GroupResult.{GroupResult}
 use Rattle.records.specs.declared.key.Last.{Last}
-use Rattle.records.specs.Layouts.{dayAt, dayBytes, groupLength, groupBytes, unitBytes, endAt, endBytes}
+use Rattle.records.specs.Layouts.{dayAt, dayBytes, groupLength, groupBytes, unitAt, unitBytes, lengthOf, endAt, endBytes}
 use Rattle.records.specs.Layouts.{groupResultLength, groupResultAt, groupResultBytes, unitResultLength, unitResultAt, unitResultBytes}
-use Rattle.records.specs.Reading.{dayOf, groupOf, endOf, also, unitFaults, unitsOf, placeFrom, unitPlace, unitIn}
+use Rattle.records.specs.Reading.{dayOf, groupOf, endOf, also, unitFaults, unitsOf, unitEnd, placeFrom, unitPlace, unitIn}
 use Rattle.records.proofs.Accepted.{Sound, sound}
 use Rattle.writers.specs.Results.{Results, resultOf, unitResultsBytes, resultBytes}
 use Rattle.writers.specs.Columns.{Columns, rowOf, count, floorAt, rowChecks}
@@ -72,16 +72,19 @@ module _ (g : GroupRecord) (c : Columns) (rest s : List ℕ) (so : s ≡ blockBy
       let e : length (groupBytes g) + length (unitsBytes c i) ≡ unitsEnd c i = rw (length-group g) (length-units c i) in
       (f .0, rw (← e, so, append-assoc (groupBytes g) (unitsBytes c (count c)) rest) (f .1))
 
-  place-is : (i : ℕ) → unitPlace s i ≡ unitsEnd c i
-  unfolding placeFrom unitsEnd
-  place-is zero = refl
-  place-is (suc i) = omega (arith, place-is i)
-
   module _ (sounds : (i : ℕ) → i < count c → Sound (rowOf c i)) where
-    unit-in : (i : ℕ) → i < count c → unitIn s i ≡ rowOf c i
-    unit-in i h =
+    unit-is : (i : ℕ) → i < count c → unitAt s (unitsEnd c i) ≡ rowOf c i
+    unit-is i h =
         let p = unit-stands i h in
-        rw (place-is i) (unit-read s (unitsEnd c i) (p .0) (rowOf c i) (held (sounds i h)) (p .1))
+        unit-read s (unitsEnd c i) (p .0) (rowOf c i) (held (sounds i h)) (p .1)
+
+    place-is : (i : ℕ) → i ≤ count c → unitPlace s i ≡ unitsEnd c i
+    unfolding placeFrom unitsEnd
+    place-is zero h = refl
+    place-is (suc i) h = ap (unitEnd s) (place-is i (omega arith)) ∙ ap (λ (u : UnitRecord). unitsEnd c i + lengthOf u) (unit-is i h)
+
+    unit-in : (i : ℕ) → i < count c → unitIn s i ≡ rowOf c i
+    unit-in i h = rw (place-is i (omega arith)) (unit-is i h)
 
     module _ (run limit : ℕ) (fine : (i : ℕ) → i < count c → unitFaults (rowOf c i) (floorAt c i) run limit ≡ Fine) where
       -- from unit i on

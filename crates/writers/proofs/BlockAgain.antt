@@ -8,7 +8,7 @@ use native.Mathlib.Omega.{arith}
 use lib.ListN.{length, take, drop}
 use lib.Seq.{take-add}
 use lib.Dec.{eqb}
-use borrow.Author.Tests.{eqb-true, eq-eqb, le-leb, lt-ltb, ltb-true}
+use borrow.Author.Tests.{eqb-true, eq-eqb, le-leb, lt-ltb}
 use Rattle.numbers.specs.Bytes.{Bytes}
 use Rattle.numbers.proofs.Columns.{column-length, column-at}
 use Rattle.terms.specs.Reply.{is, need, next}
@@ -16,17 +16,19 @@ use Rattle.terms.specs.Refusals.{answer}
 use Rattle.terms.specs.Checks.{unitCount}
 use Rattle.terms.specs.declared.refusal.Answer.{Answer}
 use Rattle.terms.specs.declared.refusal.Checked.the-variants.{Fine}
-use Rattle.terms.proofs.Replies.{need-is, next-is}
+use Rattle.terms.proofs.Replies.{next-is}
 use Rattle.records.specs.declared.day.DayRecord.{DayRecord}
 use Rattle.records.specs.declared.group.GroupRecord.{GroupRecord}
 use Rattle.records.specs.declared.unit.UnitRecord.{UnitRecord}
 use Rattle.records.specs.declared.key.Last.{Last}
-use Rattle.records.specs.Layouts.{groupKind, groupLength, groupMade, groupAt, unitKind, unitLength, unitBytes}
-use Rattle.records.specs.Reading.{aged, permitted, groupFieldsOf, groupOf, valueFaults, unitFaults, unitOf, unitsOf, placeFrom, unitPlace, unitIn}
+use Rattle.records.specs.Layouts.{groupKind, groupLength, unitBytes, lengthOf}
+use Rattle.records.specs.Inner.{isWhole}
+use Rattle.records.proofs.UnitHeads.{read-whole}
+use Rattle.records.specs.Reading.{permitted, groupOf, valueFaults, unitFaults, unitOf, unitsOf, placeFrom, unitPlace, unitIn}
 use Rattle.records.proofs.Accepted.{unit-is, block-end}
 use Rattle.records.proofs.Checks.{also-fine}
-use Rattle.records.proofs.Fields.{field-in}
-use Rattle.records.proofs.Heads.{Headed, headed}
+use Rattle.records.proofs.Heads.{headed}
+use Rattle.records.proofs.Read.{GroupPassed, group-passed, GroupRead, group-read}
 use Rattle.writers.specs.Columns.{Columns, rowOf, count, same, even, floorAt, rowChecks}
 use Rattle.writers.specs.Writing.{roomFor, groupChecks, unitsEnd, unitsChecked, blockLength, writeBlockOf, groupOver, unitsBytes, blockBytes, BlockWritten}
 use Rattle.writers.specs.Trips.{columnsIn}
@@ -43,7 +45,7 @@ floorIn s (suc i) = unitIn s i .number + 1
 
 -- a unit that the reader passed
 record Read (s : List ℕ) (i : ℕ) : Type 0 where
-  pub head : Headed s (unitPlace s i) unitKind unitLength
+  pub whole : isWhole s (unitPlace s i) ≡ true
   pub fine : valueFaults (unitIn s i) (floorIn s i) ≡ Fine
 
 module _ (s : List ℕ) (run limit : ℕ) where
@@ -51,7 +53,7 @@ module _ (s : List ℕ) (run limit : ℕ) where
   unfolding unitOf unitFaults
   read-one i e =
       let p = unit-is s (unitPlace s i) (floorIn s i) run limit e in
-      record { head = headed s (unitPlace s i) unitKind unitLength (next-is _ _ e .1 .0); fine = also-fine _ _ (p .0) .0 }
+      record { whole = read-whole s (unitPlace s i) (next-is _ _ e .1 .0); fine = also-fine _ _ (p .0) .0 }
 
   read-all : (i left : ℕ) {n : ℕ} → unitsOf s (unitPlace s i) (floorIn s i) run limit left ≡ is n → (j : ℕ) → i ≤ j → j < i + left → Read s j
   unfolding unitsOf placeFrom floorIn
@@ -78,38 +80,17 @@ module _ (s : List ℕ) (units : ℕ) where
   floor-in zero h = refl
   floor-in (suc i) h = rw (row-in i (omega arith))
 
-  end-in : (i : ℕ) → unitsEnd (columnsIn s units) i ≡ unitPlace s i
+  end-in : (i : ℕ) → i ≤ units → unitsEnd (columnsIn s units) i ≡ unitPlace s i
   unfolding unitsEnd placeFrom
-  end-in zero = refl
-  end-in (suc i) = omega (arith, end-in i)
+  end-in zero h = refl
+  end-in (suc i) h =
+      ap (λ (at : ℕ). at + lengthOf (rowOf (columnsIn s units) i)) (end-in i (omega arith)) ∙ ap (λ (u : UnitRecord). unitPlace s i + lengthOf u) (row-in i h)
 
   even-in : even (columnsIn s units) ≡ true
   unfolding even same
   even-in = simp (column-length, eq-eqb units units refl)
 
 -- ---- the whole block
-record Group (s : List ℕ) (day : DayRecord) (g : GroupRecord) : Type 0 where
-  pub head : Headed s 0 groupKind groupLength
-  pub values : g ≡ groupAt s 0
-  pub early : g .quarter < day .quarters
-  pub counted : unitCount (g .count) ≡ true
-
-group-is : (s : List ℕ) (day : DayRecord) (last : Last) {g : GroupRecord} → groupOf s day last ≡ is g → Group s day g
-unfolding groupOf groupFieldsOf
-group-is s day last {g} e =
-    let a = next-is _ _ e in
-    let b = need-is _ _ _ _ (a .1 .1) in
-    let c = need-is _ _ _ _ (b .1) in
-    let d = need-is _ _ _ _ (c .1) in
-    let f = field-in (aged (day .run) (groupAt s 0 .made) (day .«position_limit»)) 10 (groupMade .place) (groupAt s 0) (sym (d .1)) in
-    let v = f .1 in
-    record {
-      head = headed s 0 groupKind groupLength (a .1 .0);
-      values = v;
-      early = rw v (ltb-true (groupAt s 0 .quarter) (day .quarters) (b .0));
-      counted = rw v (c .0);
-    }
-
 either : {P : Type 0} (a b : Bool) → (a || b) ≡ true → (a ≡ true → P) → (b ≡ true → P) → P
 either true b e f g = f refl
 either false b e f g = g e
@@ -125,6 +106,12 @@ module _ (s : List ℕ) (small : Bytes s) (day : DayRecord) (last : Last) (g : G
   abbrev values : Columns
   values = columnsIn s (g .count)
 
+  read : GroupRead s day last g
+  read = group-read s day last group
+
+  passed : GroupPassed s day last g
+  passed = group-passed s day last (read .fields)
+
   counted : count values ≡ g .count
   counted = column-length (λ (i : ℕ). unitIn s i .number) (g .count)
 
@@ -134,18 +121,19 @@ module _ (s : List ℕ) (small : Bytes s) (day : DayRecord) (last : Last) (g : G
 
   -- where they end is the block's length
   ends : n ≡ blockLength values
-  ends = block-end s (day .run) (day .«margin_limit») (g .count) (group-is s day last group .head .long) units ∙ rw (counted, end-in s (g .count))
+  ends = block-end s (day .run) (day .«margin_limit») (g .count) (headed s 0 groupKind groupLength (read .head) .long) units ∙ rw (counted, end-in s (g .count) (g .count) (omega arith))
 
   -- the writer takes the values
   takes : (room : ℕ) → n ≤ room → writeBlockOf (g .quarter) values room ≡ is n
   unfolding writeBlockOf groupChecks unitsChecked roomFor need next
   takes room h =
-      let k = group-is s day last group in
-      let early = lt-ltb (g .quarter) 100 (omega (arith, k .early, most (day .quarters) right)) in
-      let some : unitCount (count values) ≡ true = rw counted (k .counted) in
+      let v = passed .value in
+      let early : g .quarter < day .quarters = rw v (passed .early) in
+      let soon = lt-ltb (g .quarter) 100 (omega (arith, most (day .quarters) right)) in
+      let some : unitCount (count values) ≡ true = rw (counted, v) (passed .counted) in
       let all = fine-scan (rowChecks values) 0 (count values) (λ i l m. fine i (omega (arith, counted))) in
       let fits = le-leb (blockLength values) room (omega (arith, ends)) in
-      simp (even-in s (g .count), early, some, all, fits) (ap is (sym ends))
+      simp (even-in s (g .count), soon, some, all, fits) (ap is (sym ends))
     where
       fine : (i : ℕ) → i < g .count → rowChecks values i ≡ Fine
       fine i h = rw (row-in s (g .count) i h, floor-in s (g .count) i h) (reads i h .fine)
@@ -154,13 +142,12 @@ module _ (s : List ℕ) (small : Bytes s) (day : DayRecord) (last : Last) (g : G
   unit-again : (i : ℕ) → i < g .count
       → unitBytes (rowOf values i) ≡ take (length (unitBytes (rowOf values i))) (drop (groupLength + length (unitsBytes values i)) s)
   unit-again i h =
-      rw (length-unit (rowOf values i), length-units values i, end-in s (g .count) i, row-in s (g .count) i h) (unit-laid s small (unitPlace s i) (reads i h .head))
+      rw (length-unit (rowOf values i), length-units values i, end-in s (g .count) i (omega arith), row-in s (g .count) i h) (unit-laid s small (unitPlace s i) (reads i h .whole))
 
   lays : blockBytes g values ≡ take n s
   unfolding blockBytes unitsBytes
   lays =
-      let k = group-is s day last group in
-      let first = rw (← k .values) at (group-laid s small 0 (k .head)) in
+      let first = rw (← passed .value) at (group-laid s small 0 (headed s 0 groupKind groupLength (read .head))) in
       let rest = run-again (λ (i : ℕ). unitBytes (rowOf values i)) s groupLength (count values) (λ i h. unit-again i (rw counted at h)) in
       rw (first, rest, ends, ← length-units values (count values)) (sym (take-add groupLength (length (unitsBytes values (count values))) s))
 

@@ -1,6 +1,7 @@
 -- Each record by its table: its bytes at any place are read as its values, and the values that stand at a place are laid as the bytes there.
 use Prim.Native.Nat.{ℕ}
 use mathlib.Core.Path.{_≡_, refl}
+use mathlib.Core.Bool.{true}
 use mathlib.Core.List.{List, [], _∷_, _++_}
 use lib.ListN.{take, drop}
 use mir.Syntax.{w32}
@@ -14,11 +15,12 @@ use Rattle.records.specs.declared.group_result.GroupResult.{GroupResult}
 use Rattle.records.specs.declared.unit_result.UnitResult.{UnitResult}
 use Rattle.records.specs.Layouts.{dayKind, dayLength, dayTable, dayAt, dayBytes}
 use Rattle.records.specs.Layouts.{groupKind, groupLength, groupTable, groupAt, groupBytes}
-use Rattle.records.specs.Layouts.{unitKind, unitLength, unitTable, unitAt, unitBytes}
+use Rattle.records.specs.Layouts.{unitKind, unitLength, unitTable, unitAt, unitBytes, lengthOf}
+use Rattle.records.specs.Inner.{isWhole}
 use Rattle.records.specs.Layouts.{endKind, endLength, endTable, endAt, endBytes}
 use Rattle.records.specs.Layouts.{groupResultKind, groupResultLength, groupResultTable, groupResultAt, groupResultBytes}
 use Rattle.records.specs.Layouts.{unitResultKind, unitResultLength, unitResultTable, unitResultAt, unitResultBytes}
-use Rattle.records.proofs.Heads.{Headed}
+use Rattle.records.proofs.Heads.{Headed, whole-headed}
 use Rattle.records.proofs.Tiled.{day-tiled, group-tiled, unit-tiled, end-tiled, group-result-tiled, unit-result-tiled}
 use Rattle.writers.specs.Trips.{HeldGroupResult, HeldUnitResult}
 use Rattle.writers.proofs.Tables.{AllHeld, table-back, record-again}
@@ -80,10 +82,10 @@ module _ (s : List ℕ) (small : Bytes s) (at : ℕ) where
   unfolding groupAt groupBytes
   group-laid h = record-again s small at groupKind groupLength (groupTable (groupAt s at)) h refl (refl, (refl, (refl, (refl, (refl, tt)))))
 
-  pub unit-laid : Headed s at unitKind unitLength → unitBytes (unitAt s at) ≡ take unitLength (drop at s)
+  pub unit-laid : isWhole s at ≡ true → unitBytes (unitAt s at) ≡ take (lengthOf (unitAt s at)) (drop at s)
   unfolding unitAt unitBytes
-  unit-laid h =
-      record-again s small at unitKind unitLength (unitTable (unitAt s at)) h refl (refl, (refl, (refl, (refl, (refl, (refl, (refl, (refl, (refl, tt)))))))))
+  unit-laid w =
+      record-again s small at unitKind unitLength (unitTable (unitAt s at)) (whole-headed s at unitKind unitLength w) refl (refl, (refl, (refl, (refl, (refl, (refl, (refl, (refl, (refl, tt)))))))))
 
   pub end-laid : Headed s at endKind endLength → endBytes (endAt s at) ≡ take endLength (drop at s)
   unfolding endAt endBytes

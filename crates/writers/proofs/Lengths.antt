@@ -1,5 +1,5 @@
 -- How long each record is, and how long they are one after another.
-use Prim.Native.Nat.{ℕ, zero, suc, _+_, _*_}
+use Prim.Native.Nat.{ℕ, zero, suc, _+_, _*_, _≤_}
 use mathlib.Core.Path.{_≡_, refl, _∙_}
 use native.Mathlib.Omega.{arith}
 use lib.ListN.{length, length-append}
@@ -10,7 +10,9 @@ use Rattle.records.specs.declared.group.GroupRecord.{GroupRecord}
 use Rattle.records.specs.declared.unit.UnitRecord.{UnitRecord}
 use Rattle.records.specs.declared.group_result.GroupResult.{GroupResult}
 use Rattle.records.specs.declared.unit_result.UnitResult.{UnitResult}
-use Rattle.records.specs.Layouts.{behind, dayLength, dayBytes, endLength, endBytes, groupLength, groupBytes, unitLength, unitBytes, lengthOf}
+use Rattle.records.specs.Layouts.{behind, dayLength, dayBytes, endLength, endBytes, groupLength, groupBytes, unitBytes, lengthOf}
+use Rattle.records.specs.Longest.{longestUnit}
+use Rattle.records.proofs.UnitHeads.{length-most}
 use Rattle.records.specs.Layouts.{groupResultLength, groupResultBytes, unitResultLength, unitResultBytes}
 use Rattle.writers.specs.Columns.{Columns, rowOf, count}
 use Rattle.writers.specs.Results.{Results, resultOf, unitResultsBytes}
@@ -53,11 +55,14 @@ pub length-block : (g : GroupRecord) (c : Columns) → length (blockBytes g c) �
 unfolding blockBytes
 length-block g c = length-append (groupBytes g) (unitsBytes c (count c)) ∙ omega (arith, length-group g, length-units c (count c))
 
--- the one law that says how long a block is: today every unit record has one length
-pub end-stride : (c : Columns) (units : ℕ) → unitsEnd c units ≡ groupLength + unitLength * units
+-- it holds its group record, and is no longer than its units at their longest
+pub end-from : (c : Columns) (units : ℕ) → groupLength ≤ unitsEnd c units
+end-from c units = omega (arith, length-units c units)
+
+pub end-most : (c : Columns) (units : ℕ) → unitsEnd c units ≤ groupLength + longestUnit * units
 unfolding unitsEnd
-end-stride c zero = omega arith
-end-stride c (suc i) = omega (arith, end-stride c i)
+end-most c zero = omega arith
+end-most c (suc i) = omega (arith, end-most c i, length-most (rowOf c i))
 
 -- ---- a result
 pub length-results : (r : Results) (units : ℕ) → length (unitResultsBytes r units) ≡ unitResultLength * units

@@ -17,8 +17,8 @@ use Rattle.records.specs.declared.group.GroupRecord.{GroupRecord}
 use Rattle.records.specs.declared.unit.UnitRecord.{UnitRecord}
 use Rattle.records.specs.declared.end.EndRecord.{EndRecord}
 use Rattle.records.specs.declared.key.Last.{Last}
-use Rattle.records.specs.Layouts.{behind, dayKind, dayLength, dayBytes, groupKind, groupLength, groupBytes, unitKind, unitLength, unitBytes, endKind, endLength, endBytes}
-use Rattle.records.specs.Reading.{headOf, permitted, dayFieldsOf, dayOf, groupFieldsOf, groupOf, endFieldsOf, endOf, unitFaults, unitFieldsOf, unitOf}
+use Rattle.records.specs.Layouts.{behind, dayKind, dayLength, dayBytes, groupKind, groupLength, groupBytes, unitKind, unitLength, unitBytes, lengthOf, endKind, endLength, endBytes}
+use Rattle.records.specs.Reading.{headOf, unitHeadOf, permitted, dayFieldsOf, dayOf, groupFieldsOf, groupOf, endFieldsOf, endOf, unitFaults, unitFieldsOf, unitOf}
 use Rattle.writers.specs.Trips.{Joins}
 use Rattle.writers.proofs.Fields.{HeldUnit, day-read, group-read, unit-read, end-read}
 
@@ -41,7 +41,7 @@ module _ (s : List ℕ) (at : ℕ) (rest : List ℕ) where
   unfolding groupBytes behind bytes16 bytes32
   group-head g e = head-read s at groupKind groupLength (groupBytes g) rest e refl refl (omega arith)
 
-  unit-head : (u : UnitRecord) → drop at s ≡ unitBytes u ++ rest → headOf s at unitKind unitLength ≡ is (at + unitLength)
+  unit-head : (u : UnitRecord) → drop at s ≡ unitBytes u ++ rest → unitHeadOf s at ≡ is (at + lengthOf u)
   unfolding unitBytes behind bytes16 bytes32
   unit-head u e = head-read s at unitKind unitLength (unitBytes u) rest e refl refl (omega arith)
 

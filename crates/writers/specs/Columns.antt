@@ -7,6 +7,7 @@ use lib.IntN.{ℤ, pos}
 use lib.ListN.{length, getD}
 use Rattle.terms.specs.declared.refusal.Checked.{Checked}
 use Rattle.records.specs.declared.unit.UnitRecord.{UnitRecord}
+use Rattle.records.specs.Layouts.{unitWith}
 use Rattle.records.specs.Reading.{valueFaults}
 
 pub record Columns : Type 0 where
@@ -37,17 +38,16 @@ columns number class coincide nominated n pc step-down step-up made =
 -- the unit of an index
 unfoldable pub rowOf : Columns → ℕ → UnitRecord
 rowOf c i =
-    record {
-      number = getD (c .number) i 0;
-      class = getD (c .class) i 0;
-      coincide = getD (c .coincide) i 0;
-      nominated = getD (c .nominated) i 0;
-      n = record { 0 = getD (c .n) i (pos 0) };
-      pc = record { 0 = getD (c .pc) i (pos 0) };
-      «step_down» = getD (c .step-down) i (pos 0);
-      «step_up» = getD (c .step-up) i (pos 0);
-      made = getD (c .made) i 0;
-    }
+    unitWith
+    (getD (c .number) i 0)
+    (getD (c .class) i 0)
+    (getD (c .coincide) i 0)
+    (getD (c .nominated) i 0)
+    (getD (c .n) i (pos 0))
+    (getD (c .pc) i (pos 0))
+    (getD (c .step-down) i (pos 0))
+    (getD (c .step-up) i (pos 0))
+    (getD (c .made) i 0)
 
 -- how many units there are
 abbrev pub count : Columns → ℕ

@@ -11,7 +11,7 @@ use Rattle.terms.specs.declared.refusal.Answer.{Answer}
 use Rattle.records.specs.declared.day.DayRecord.{DayRecord}
 use Rattle.records.specs.declared.group.GroupRecord.{GroupRecord}
 use Rattle.records.specs.declared.end.EndRecord.{EndRecord}
-use Rattle.records.specs.Layouts.{dayLength, dayBytes, groupLength, groupBytes, unitBytes, lengthOf, endLength, endBytes}
+use Rattle.records.specs.Layouts.{dayLength, dayBytes, groupLength, groupWith, groupBytes, unitBytes, lengthOf, endLength, endBytes}
 use Rattle.records.specs.Reading.{permitted}
 use Rattle.writers.specs.Runs.{run}
 use Rattle.writers.specs.Columns.{Columns, rowOf, count, even, rowChecks}
@@ -70,7 +70,7 @@ writeBlockOf quarter c room =
 
 -- the group record, whose count is that of the columns' units, and then the units' records
 abbrev pub groupOver : ℕ → ℕ → ℕ → ℕ → Columns → GroupRecord
-groupOver brp zone quarter made c = record { brp = brp; zone = zone; quarter = quarter; count = count c; made = made }
+groupOver brp zone quarter made c = groupWith brp zone quarter (count c) made
 
 unfoldable pub unitsBytes : Columns → ℕ → List ℕ
 unitsBytes c units = run (λ (i : ℕ). unitBytes (rowOf c i)) units

@@ -4,7 +4,7 @@ ghost use mathlib.Core.List.{[], _∷_};
 ghost use Prim.Native.Nat.{_+_, _≤_};
 ghost use lib.ListN.{length};
 ghost use Rattle.numbers.specs.Bytes.{bytes16, laidAt};
-ghost use Rattle.records.specs.Layouts.{dayLength, dayBytes, groupLength, groupBytes, unitLength, unitBytes, endLength, endBytes};
+ghost use Rattle.records.specs.Layouts.{dayLength, dayBytes, groupLength, groupBytes, lengthOf, unitBytes, endLength, endBytes};
 ghost use Rattle.writers.specs.Inner.{headLength, threeLength, fourLength, quantities};
 use numbers::bytes::lay_i32;
 use numbers::bytes::lay_u8;
@@ -66,7 +66,7 @@ pub fn lay_group(room: &mut [u8], at: usize, g: GroupRecord)
 }
 
 pub fn lay_unit(room: &mut [u8], at: usize, u: UnitRecord)
-    requires { ⌜ at + unitLength ≤ length (now room) ⌝ }
+    requires { ⌜ at + lengthOf u ≤ length (now room) ⌝ }
     ensures { λ _. ⌜ now (room .exit) ≡ laidAt (now (room .entry)) at (unitBytes u) ⌝ }
 {
     let n = u.n;

@@ -4,7 +4,8 @@ use mir.Facts.{toZ-ofZ}
 use mir.Val.{SFits}
 use mir.Syntax.{w32}
 use Rattle.records.specs.Answers.{dayReply}
-use Rattle.desk.proofs.First.{refuses, day-out, day-in, day-permitted}
+use Rattle.records.proofs.Read.{day-read}
+use Rattle.desk.proofs.First.{refuses, day-out, day-in}
 use borrow.Author.Needs.{needs}
 use Rattle.desk.proofs.flehwella_check.Statement.{statement}
 use Rattle.desk.proofs.flehwella_check.Tie as tie
@@ -35,7 +36,7 @@ check-first-requires : tie.Need-check-first-requires
 check-first-requires c κs =
     let read-day = c .before .before .before .before in
     let e = sym (read-day .read-day .ensures) ∙ ap dayReply (c .before .before .d .given .1) in
-    day-permitted _ e
+    day-read _ e .quarters
 
 same-length : tie.Need-same-length
 same-length c = search needs

@@ -4,7 +4,7 @@ use denote.Ref.{now}
 use Rattle.terms.specs.Reply.{next}
 use Rattle.records.specs.Answers.{groupReply}
 use Rattle.day.specs.Checking.{blockFieldsOf}
-use Rattle.day.proofs.Read.{group-passed}
+use Rattle.records.proofs.Read.{group-passed}
 use borrow.Author.Needs.{needs}
 use Rattle.day.proofs.check.block_fields.Statement.{statement}
 use Rattle.day.proofs.check.block_fields.Tie as tie

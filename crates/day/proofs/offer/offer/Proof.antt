@@ -82,7 +82,7 @@ returns-2 c =
     let h = told .h .given .0 .0 in
     let e = sym (asked .day-head .ensures) ∙ ap headReply (told .h .given .1) in
     let k = c .before .enum-told2 .given .1 in
-    rw (offer-day d b h e k _, day-writes d b h e k) (record { gave = c .open-day .ensures; room = day-room b _ })
+    rw (offer-day d b h e k _, day-writes d b h e k) (record { gave = c .open-day .ensures; room = day-room b _ _ })
 
 same-length : tie.Need-same-length
 same-length c = search needs
@@ -111,7 +111,7 @@ returns-4 c =
     let h = told .h .given .0 .0 in
     let e = sym (asked .day-head .ensures) ∙ ap headReply (told .h .given .1) in
     let k = c .before .enum-told4 .given .1 in
-    rw (offer-end d b h e k _, end-writes d b h e k) (record { gave = c .close-day .ensures; room = end-room d b _ })
+    rw (offer-end d b h e k _, end-writes d b h e k) (record { gave = c .close-day .ensures; room = end-room d b _ _ })
 
 pub offer-spec : {M : Type 1} → statement M
 offer-spec =

@@ -6,7 +6,7 @@ use Rattle.records.specs.Answers.{groupReply}
 use Rattle.day.specs.Checking.{blockFieldsOf}
 use Rattle.day.specs.Offers.{blockTaken}
 use Rattle.day.specs.Inner.{unitsTaken, blockAfter}
-use Rattle.day.proofs.Read.{group-passed}
+use Rattle.records.proofs.Read.{group-passed}
 use Rattle.day.proofs.Telling.{took-long, block-then}
 use Rattle.day.proofs.Taking.{refuses-room, takes-room, result-length}
 use borrow.Author.Needs.{needs}

@@ -1,5 +1,4 @@
 -- The marks' fault, and else the amounts': the first answer is handed on, or gives way to the second.
-use mathlib.Core.Path.{sym, _∙_}
 use Rattle.records.specs.Reading.{valueFaults, also}
 use borrow.Author.Needs.{needs}
 use Rattle.records.proofs.faults.faults.Statement.{statement}

@@ -4,9 +4,8 @@ use denote.Ref.{now}
 use borrow.Author.Needs.{needs}
 use Rattle.terms.specs.Reply.{next}
 use Rattle.terms.specs.Refusals.{answer}
-use Rattle.records.specs.Layouts.{unitKind, unitLength}
 use Rattle.records.specs.Reading.{unitOf}
-use Rattle.records.proofs.Heads.{headed}
+use Rattle.records.proofs.UnitHeads.{read-long}
 use Rattle.records.proofs.units.unit_at.Statement.{statement}
 use Rattle.records.proofs.units.unit_at.Tie as tie
 
@@ -32,7 +31,7 @@ unit-judged-requires : tie.Need-unit-judged-requires
 unit-judged-requires c κs =
     let came = c .before .before in
     let start = came .before .before in
-    headed (now (start .args .s)) (start .args .at) unitKind unitLength (sym (came .unit-head .ensures) ∙ ap answer (c .enum-told .given .1)) .long
+    read-long (now (start .args .s)) (start .args .at) (sym (came .unit-head .ensures) ∙ ap answer (c .enum-told .given .1))
 
 returns-2 : tie.Need-returns-2
 unfolding unitOf next

@@ -7,7 +7,8 @@ use borrow.Author.Needs.{needs}
 use Rattle.terms.proofs.FirstRefused.{Left, start, turn, stop, end}
 use Rattle.records.specs.Answers.{unitReply}
 use Rattle.records.specs.Reading.{unitsOf}
-use Rattle.records.proofs.Turns.{unitsAfter, unit-long, units-steps}
+use Rattle.records.proofs.Turns.{unitsAfter, units-steps}
+use Rattle.records.proofs.UnitHeads.{unit-long}
 use Rattle.records.proofs.units.units_from.Statement.{statement}
 use Rattle.records.proofs.units.units_from.Tie as tie
 

@@ -3,7 +3,6 @@ use mathlib.Core.Path.{refl, sym, _∙_}
 use Prim.Native.Nat.{_+_, _≤_}
 use denote.Ref.{now}
 use lib.ListN.{length}
-use Rattle.records.specs.Layouts.{unitLength}
 use native.Mathlib.Omega.{arith}
 use borrow.Author.Tests.{not-true, not-false, lt-leb, le-leb, leb-true}
 use Rattle.text.specs.Making.{unitMade, unitTurn}
@@ -11,23 +10,31 @@ use borrow.Author.Needs.{needs}
 use Rattle.text.proofs.making.unit.Statement.{statement}
 use Rattle.text.proofs.making.unit.Tie as tie
 
+length-requires : tie.Need-length-requires
+length-requires c κs = search needs
+
 has-room-requires : tie.Need-has-room-requires
 has-room-requires c κs = search needs
 
+-- the room is asked for as many bytes as the unit's record has
 returns : tie.Need-returns
 unfolding unitTurn
-returns c = rw (sym (c .before .has-room .ensures) ∙ not-true _ (c .if1 .taken)) (record { answered = refl; left = refl })
+returns c =
+    let asked = c .before in
+    rw (rw (asked .before .length .ensures) at (sym (asked .has-room .ensures) ∙ not-true _ (c .if1 .taken))) (record { answered = refl; left = refl })
 
 add-next : tie.Need-add-next
 add-next c =
-    let start = c .before .before .before in
-    let h : start .args .b .here + unitLength ≤ length (now (start .args .room)) = leb-true _ _ (sym (c .before .has-room .ensures) ∙ not-false _ (c .if1 .left)) in
+    let asked = c .before in
+    let start = asked .before .before .before in
+    let h : start .args .b .here + asked .before .length .result ≤ length (now (start .args .room)) = leb-true _ _ (sym (asked .has-room .ensures) ∙ not-false _ (c .if1 .left)) in
     omega (arith, h)
 
 lay-unit-requires : tie.Need-lay-unit-requires
 lay-unit-requires c κs =
     let long = c .before in
-    leb-true _ _ (sym (long .before .has-room .ensures) ∙ not-false _ (long .if1 .left))
+    let asked = long .before in
+    leb-true _ _ (rw (asked .before .length .ensures) at (sym (asked .has-room .ensures) ∙ not-false _ (long .if1 .left)))
 
 found-in-requires : tie.Need-found-in-requires
 found-in-requires c κs = search needs
@@ -45,16 +52,18 @@ returns-2 c =
     let found = last .before .before in
     let lay = found .before .before .before in
     let long = lay .before .before in
-    rw (sym (long .before .has-room .ensures) ∙ not-false _ (long .if1 .left), le-leb _ _ (last .if2 .taken), ← (found .found-in .ensures)) (record { answered = c .whole .ensures; left = lay .lay-unit .ensures })
+    let asked = long .before in
+    let size = asked .before .length .ensures in
+    rw (rw size at (sym (asked .has-room .ensures) ∙ not-false _ (long .if1 .left)), le-leb _ _ (last .if2 .taken), ← (found .found-in .ensures)) (record { answered = rw size at (c .whole .ensures); left = lay .lay-unit .ensures })
 
-sub-t15 : tie.Need-sub-t15
-sub-t15 c = search needs
+sub-t16 : tie.Need-sub-t16
+sub-t16 c = search needs
 
-cast-t16 : tie.Need-cast-t16
-cast-t16 c = search needs
+cast-t17 : tie.Need-cast-t17
+cast-t17 c = search needs
 
-add-t17 : tie.Need-add-t17
-add-t17 c = search needs
+add-t18 : tie.Need-add-t18
+add-t18 c = search needs
 
 same-length-2 : tie.Need-same-length-2
 same-length-2 c = search needs
@@ -66,12 +75,15 @@ returns-3 c =
     let found = last .before .before in
     let lay = found .before .before .before in
     let long = lay .before .before in
-    rw (sym (long .before .has-room .ensures) ∙ not-false _ (long .if1 .left), lt-leb _ _ (last .if2 .left), ← (found .found-in .ensures)) (record { answered = refl; left = lay .lay-unit .ensures })
+    let asked = long .before in
+    let size = asked .before .length .ensures in
+    rw (size, rw size at (sym (asked .has-room .ensures) ∙ not-false _ (long .if1 .left)), lt-leb _ _ (last .if2 .left), ← (found .found-in .ensures)) (record { answered = refl; left = lay .lay-unit .ensures })
 
 pub unit-spec : {M : Type 1} → statement M
 unit-spec =
     tie.close
     (tie.spec
+    length-requires
     has-room-requires
     returns
     add-next
@@ -80,8 +92,8 @@ unit-spec =
     whole-requires
     same-length
     returns-2
-    sub-t15
-    cast-t16
-    add-t17
+    sub-t16
+    cast-t17
+    add-t18
     same-length-2
     returns-3)

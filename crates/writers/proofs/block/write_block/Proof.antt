@@ -11,7 +11,7 @@ use Rattle.records.specs.declared.group.GroupRecord.{GroupRecord}
 use Rattle.records.specs.Layouts.{groupLength, groupBytes}
 use Rattle.writers.specs.Columns.{Columns, columns, count}
 use Rattle.writers.specs.Writing.{groupOver, unitsBytes, blockBytes, blockLength}
-use Rattle.writers.proofs.Lengths.{length-group, length-units, length-block, end-stride}
+use Rattle.writers.proofs.Lengths.{length-group, length-units, length-block, end-from}
 use Rattle.writers.proofs.Accepted.{Accepted, accepted, long}
 use Rattle.writers.proofs.Writes.{refuses, writes}
 use Rattle.writers.proofs.block.write_block.Statement.{statement}
@@ -42,7 +42,7 @@ fits : (c : tie.After-enum-told)
 fits c =
     let v = took c in
     let k = given (c .before .before) in
-    (omega (arith, v .bytes, v .enough, end-stride k (count k)), omega (arith, v .bytes, v .enough))
+    (omega (arith, v .bytes, v .enough, end-from k (count k)), omega (arith, v .bytes, v .enough))
 
 check-block-requires : tie.Need-check-block-requires
 check-block-requires c κs = search needs

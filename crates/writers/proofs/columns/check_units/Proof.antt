@@ -15,7 +15,8 @@ use Rattle.records.specs.declared.unit.UnitRecord.{UnitRecord}
 use Rattle.records.specs.Reading.{valueFaults}
 use Rattle.writers.specs.Columns.{Columns, columns, rowOf, count, floorAt, rowChecks}
 use Rattle.writers.specs.Writing.{unitsEnd, unitsChecked}
-use Rattle.writers.proofs.Lengths.{end-stride}
+use Rattle.writers.proofs.Lengths.{end-most}
+use Rattle.records.proofs.UnitHeads.{length-most}
 use Rattle.writers.proofs.Accepted.{long-below}
 use Rattle.writers.proofs.columns.check_units.Statement.{statement}
 use Rattle.writers.proofs.columns.check_units.Tie as tie
@@ -93,10 +94,11 @@ length-requires c κs = search needs
 add-end : tie.Need-add-end Inv-loop μ-loop
 add-end c =
     let match = c .before .before .before in
-    let t = match .before .before .before in
+    let unit = match .before .before in
+    let t = unit .before in
     let l = t .before .loop in
     let s = entry (t .before) in
-    omega (arith, c .length .ensures, l .inv .on, end-stride (given s) (l .i), t .loop-test .taken, s .pre .few)
+    omega (arith, c .length .ensures, length-most (unit .row .result), l .inv .on, end-most (given s) (l .i), t .loop-test .taken, s .pre .few)
 
 add-i : tie.Need-add-i Inv-loop μ-loop
 add-i c = search needs

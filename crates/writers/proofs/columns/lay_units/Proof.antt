@@ -6,7 +6,7 @@ use native.Mathlib.Omega.{arith}
 use lib.ListN.{length}
 use denote.Ref.{now}
 use borrow.Author.Needs.{needs}
-use Rattle.records.specs.Layouts.{groupLength, unitLength, unitBytes}
+use Rattle.records.specs.Layouts.{groupLength, unitBytes, lengthOf}
 use Rattle.writers.specs.Columns.{Columns, columns, rowOf}
 use Rattle.writers.specs.Writing.{unitsBytes}
 use Rattle.writers.proofs.Lengths.{length-unit, length-units}
@@ -38,7 +38,7 @@ given s =
 below : (c : tie.In-loop Inv-loop μ-loop) → c .before .loop .i < entry (c .before) .args .units
 below c = omega (arith, c .loop-test .taken)
 
-fits : (c : tie.In-loop Inv-loop μ-loop) → c .before .loop .here + unitLength ≤ length (c .before .loop .room)
+fits : (c : tie.In-loop Inv-loop μ-loop) → c .before .loop .here + lengthOf (rowOf (given (entry (c .before))) (c .before .loop .i)) ≤ length (c .before .loop .room)
 fits c =
     let s = entry (c .before) in
     let l = c .before .loop in

@@ -1,0 +1,78 @@
+-- The head of a unit record: what was read of it ends where the unit does, within the bytes, and comes wherever its first byte stands and its length fits. Kind and length of a unit are spelled in no other law.
+use Prim.Native.Nat.{ℕ, _+_, _≤_, _<_}
+use mathlib.Core.Path.{_≡_, sym, ap, _∙_}
+use mathlib.Core.Bool.{true}
+use mathlib.Core.List.{List}
+use native.Mathlib.Omega.{arith}
+use lib.Dec.{eqb, leb}
+use lib.ListN.{length}
+use borrow.Author.Tests.{leb-true, lt-ltb, le-leb, eq-eqb}
+use Rattle.numbers.specs.Bytes.{byteAt}
+use Rattle.numbers.proofs.Choices.{and-both}
+use Rattle.terms.specs.Reply.{is, need}
+use Rattle.terms.proofs.Replies.{next-is}
+use Rattle.records.specs.declared.unit.UnitRecord.{UnitRecord}
+use Rattle.records.specs.Layouts.{unitKind, unitLength, unitAt, lengthOf}
+use Rattle.records.specs.Longest.{longestUnit}
+use Rattle.records.specs.Reading.{headOf, unitHeadOf, unitEnd, unitOf}
+use Rattle.records.specs.Inner.{isWhole}
+use Rattle.records.proofs.Heads.{headed, head-end, whole-head, whole-headed}
+
+-- a unit has bytes, and no more than the longest
+pub length-some : (u : UnitRecord) → 0 < lengthOf u
+length-some u = omega arith
+
+pub length-most : (u : UnitRecord) → lengthOf u ≤ longestUnit
+length-most u = omega arith
+
+module _ (s : List ℕ) (at : ℕ) where
+  pub unit-past : at < unitEnd s at
+  unit-past = omega (arith, length-some (unitAt s at))
+
+  pub unit-most : unitEnd s at ≤ at + longestUnit
+  unit-most = omega (arith, length-most (unitAt s at))
+
+  -- a unit record that lies there whole has its head read
+  pub whole-read : isWhole s at ≡ true → unitHeadOf s at ≡ is (unitEnd s at)
+  whole-read w = whole-head s at unitKind unitLength (omega arith) w
+
+  pub whole-long : isWhole s at ≡ true → unitEnd s at ≤ length s
+  whole-long w = whole-headed s at unitKind unitLength w .long
+
+  module _ {end : ℕ} (e : unitHeadOf s at ≡ is end) where
+    pub read-end : end ≡ unitEnd s at
+    read-end = sym (head-end s at unitKind unitLength e)
+
+    pub read-whole : isWhole s at ≡ true
+    read-whole =
+        let h = headed s at unitKind unitLength e in
+        rw (le-leb (at + unitLength) (length s) (h .long), eq-eqb (byteAt s at) unitKind (h .first))
+
+    pub read-long : unitEnd s at ≤ length s
+    read-long = whole-long read-whole
+
+  -- a unit that was read lies whole in the bytes
+  pub unit-long : (floor run limit : ℕ) {u : UnitRecord} → unitOf s at floor run limit ≡ is u → unitEnd s at ≤ length s
+  unfolding unitOf
+  unit-long floor run limit e = read-long (next-is _ _ e .1 .0)
+
+-- the head of a unit in other bytes, where these have its first byte: the same tests, as far as both are long enough
+module _ (s t : List ℕ) (at to : ℕ) (b : byteAt t to ≡ byteAt s at) where
+  pub unit-moved : (n : ℕ) → unitHeadOf s at ≡ is (at + n) → to + n ≤ length t → unitHeadOf t to ≡ is (to + n)
+  unfolding headOf need
+  unit-moved n e l =
+      let k = b ∙ headed s at unitKind unitLength e .first in
+      let m : unitLength ≡ n = omega (arith, head-end s at unitKind unitLength e) in
+      simp (k, lt-ltb to (length t) (omega arith), ap (λ (x : ℕ). to + x) m, le-leb (to + n) (length t) l)
+
+-- where the longest would fit in both, whatever stands there
+pub heads-alike : (s t : List ℕ) (at : ℕ) → byteAt t at ≡ byteAt s at → at + longestUnit ≤ length s → at + longestUnit ≤ length t → unitHeadOf t at ≡ unitHeadOf s at
+unfolding headOf need
+heads-alike s t at b h k =
+    simp (
+      lt-ltb at (length s) (omega arith),
+      lt-ltb at (length t) (omega arith),
+      le-leb (at + unitLength) (length s) h,
+      le-leb (at + unitLength) (length t) k,
+      b,
+    )
