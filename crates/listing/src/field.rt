@@ -17,6 +17,13 @@ const MINUS: u8 = 45;
 
 const LINE_FEED: u8 = 10;
 
+// A field's most bytes: the space, a sign where the number may be negative, and the digits of the largest number of the width.
+pub const U8_FIELD: usize = 1 + 3;
+
+pub const U16_FIELD: usize = 1 + 5;
+
+pub const I32_FIELD: usize = 1 + 1 + 10;
+
 pub fn lay_word(out: &mut [u8], at: usize, word: &[u8]) -> usize
     requires { ⌜ at + length (now word) ≤ length (now out) ⌝ }
     ensures { λ r. ⌜ Lays (now (out .entry)) at (now (word .entry)) (length (now (word .entry))) r (now (out .exit)) ⌝ }
