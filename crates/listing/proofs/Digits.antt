@@ -1,7 +1,7 @@
 -- How many digits a number has: k where it lies below 10 ^ k and not below 10 ^ (k - 1).
 use Prim.Native.Nat.{ℕ, zero, suc, _+_, _/_, _%_, _^_, _≤_, _<_}
-use mathlib.Core.Path.{_≡_}
-use mathlib.Core.List.{[], _∷_, _++_}
+use mathlib.Core.Path.{_≡_, sym, ap, _∙_}
+use mathlib.Core.List.{List, [], _∷_, _++_}
 use native.Mathlib.Nat.{pow-suc}
 use native.Mathlib.Decide.{decLt}
 use native.Mathlib.Omega.{arith}
@@ -65,9 +65,33 @@ exactly (suc k) more n l h =
     let f : suc (suc (suc k + more)) ≡ suc (suc (suc (k + more))) = omega arith in
     rw f (omega (arith, more-length (suc (suc (k + more))) n (omega arith)))
 
-pub one-digit : (n : ℕ) → n < 10 → length (decimal n) ≡ 1
+-- more digits than a number has change nothing
+enough : (most n : ℕ) → n < 10 ^ suc most → digits (suc most) n ≡ digits (suc (suc most)) n
+enough zero n h =
+    let l : n < 10 = omega arith in
+    last-digit 0 n l ∙ sym (last-digit 1 n l)
+enough (suc most) n h = go (decLt n 10) (enough most (n / 10) (tenth-below (suc most) n h))
+  where
+    go : Dec (n < 10) → digits (suc most) (n / 10) ≡ digits (suc (suc most)) (n / 10) → digits (suc (suc most)) n ≡ digits (suc (suc (suc most))) n
+    go (yes l) ih = last-digit (suc most) n l ∙ sym (last-digit (suc (suc most)) n l)
+    go (no l) ih =
+        let t : 10 ≤ n = omega arith in
+        more-digits (suc most) n t ∙ ap (λ (x : List ℕ). x ++ (digit (n % 10) ∷ [])) ih ∙ sym (more-digits (suc (suc most)) n t)
+
+-- a number of one digit, and one of more: the digits of its tenth, and the last one
+pub one-figure : (n : ℕ) → n < 10 → decimal n ≡ digit n ∷ []
 unfolding decimal
-one-digit n h = rw (last-digit 19 n h)
+one-figure n h = last-digit 19 n h
+
+pub more-figures : (n : ℕ) → 10 ≤ n → n < 10 ^ 20 → decimal n ≡ decimal (n / 10) ++ (digit (n % 10) ∷ [])
+unfolding decimal
+more-figures n l h = more-digits 19 n l ∙ ap (λ (x : List ℕ). x ++ (digit (n % 10) ∷ [])) (enough 18 (n / 10) (tenth-below 19 n h))
+
+pub one-digit : (n : ℕ) → n < 10 → length (decimal n) ≡ 1
+one-digit n h = ap length (one-figure n h)
+
+pub one-longer : (n : ℕ) → 10 ≤ n → n < 10 ^ 20 → length (decimal n) ≡ length (decimal (n / 10)) + 1
+one-longer n l h = ap length (more-figures n l h) ∙ length-append (decimal (n / 10)) (digit (n % 10) ∷ [])
 
 pub so-many : (k more n : ℕ) → k + more ≡ 18 → 10 ^ suc k ≤ n → n < 10 ^ suc (suc k) → length (decimal n) ≡ suc (suc k)
 unfolding decimal

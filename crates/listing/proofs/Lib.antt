@@ -1,8 +1,9 @@
 -- Laws of the day list.
 pub mod Digits
 pub mod Spelling
-pub mod Signs
+pub mod Figures
 pub mod Parts
+pub mod Signs
 pub mod Replies
 pub mod Inside
 pub mod Unique

@@ -6,6 +6,7 @@ ghost use Rattle.listing.specs.Lines.{decimal, signedDecimal, u8Field, u
 ghost use Rattle.listing.specs.Inner.{Lays};
 use crate::number::digit_count;
 use crate::number::lay_digits;
+use crate::number::lay_few;
 use crate::number::long_count;
 use numbers::bytes::lay_u8;
 use numbers::signed::magnitude;
@@ -15,6 +16,13 @@ const SPACE: u8 = 32;
 const MINUS: u8 = 45;
 
 const LINE_FEED: u8 = 10;
+
+// A field's most bytes: the space, a sign where the number may be negative, and the digits of the largest number of the width.
+pub const U8_FIELD: usize = 1 + 3;
+
+pub const U16_FIELD: usize = 1 + 5;
+
+pub const I32_FIELD: usize = 1 + 1 + 10;
 
 pub fn lay_word(out: &mut [u8], at: usize, word: &[u8]) -> usize
     requires { ⌜ at + length (now word) ≤ length (now out) ⌝ }
@@ -32,6 +40,9 @@ fn lay_number(out: &mut [u8], at: usize, n: u32) -> usize
     requires { ⌜ at + length (decimal n) ≤ length (now out) ⌝ }
     ensures { λ r. ⌜ Lays (now (out .entry)) at (decimal n) (length (decimal n)) r (now (out .exit)) ⌝ }
 {
+    if n < 10000 {
+        return lay_few(out, at, n);
+    }
     let count = digit_count(n);
     lay_digits(out, at, count, n as u64);
     at + count
@@ -76,25 +87,14 @@ pub fn lay_u64_field(out: &mut [u8], at: usize, n: u64) -> usize
     at + 1 + count
 }
 
-// A negative quantity, whose size is below 2 ^ 32, has its sign between the space and the digits.
-fn lay_negative(out: &mut [u8], at: usize, size: u32) -> usize
-    requires { ⌜ at + i32Field ≤ length (now out) ⌝ }
-    ensures { λ r. ⌜ Lays (now (out .entry)) at (32 ∷ 45 ∷ decimal size) i32Field r (now (out .exit)) ⌝ }
-{
-    lay_u8(out, at, SPACE);
-    lay_u8(out, at + 1, MINUS);
-    lay_number(out, at + 2, size)
-}
-
+// The sign is laid in any case, without a branch: the digits of a number that is not negative are laid over it.
 pub fn lay_i32_field(out: &mut [u8], at: usize, z: i32) -> usize
     requires { ⌜ at + i32Field ≤ length (now out) ⌝ }
     ensures { λ r. ⌜ Lays (now (out .entry)) at (32 ∷ signedDecimal z) i32Field r (now (out .exit)) ⌝ }
 {
-    let size = magnitude(z);
-    if z < 0 {
-        return lay_negative(out, at, size);
-    }
-    lay_u32_field(out, at, size)
+    lay_u8(out, at, SPACE);
+    lay_u8(out, at + 1, MINUS);
+    lay_number(out, at + 1 + (z < 0) as usize, magnitude(z))
 }
 
 pub fn lay_feed(out: &mut [u8], at: usize) -> usize

@@ -9,6 +9,9 @@ ghost use Rattle.writers.specs.Results.{resultLength};
 ghost use Rattle.writers.specs.Runs.{run};
 ghost use Rattle.listing.specs.Lines.{decimal, signedDecimal, spaced, dayLine, groupLine, unitLine, unitLineAt, endLine, refusedLine, resultLines, i32Field, longestDayLine, longestEndLine, longestRefusedLine, longestGroupFront, longestGroupLine, longestUnitLine, longestLines};
 ghost use Rattle.listing.specs.Inner.{Lays, Readable};
+use crate::field::I32_FIELD;
+use crate::field::U8_FIELD;
+use crate::field::U16_FIELD;
 use crate::field::lay_feed;
 use crate::field::lay_i32_field;
 use crate::field::lay_u8_field;
@@ -21,6 +24,11 @@ use numbers::bytes::u16_at;
 use records::day::DayRecord;
 use records::group_result::GroupResult;
 use records::unit_result::UnitResult;
+
+// A line's most bytes: its word, its fields, and the line feed.
+pub const GROUP_LINE: usize = 5 + U16_FIELD + U8_FIELD * 4 + I32_FIELD * 5 + 1;
+
+pub const UNIT_LINE: usize = 4 + U16_FIELD + U8_FIELD + I32_FIELD * 4 + 1;
 
 pub fn lay_day_line(out: &mut [u8], at: usize, d: DayRecord) -> usize
     requires { ⌜ at + longestDayLine ≤ length (now out) ⌝ }

@@ -9,6 +9,8 @@ ghost use Rattle.walk.specs.declared.table.Role.the-variants.{Block};
 ghost use Rattle.listing.specs.Lines.{longestLines};
 ghost use Rattle.listing.specs.Inner.{Lays, Readable};
 ghost use Rattle.listing.specs.Listing.{acceptedLines, listTaken, listRefused, listReply, waits, over, listOf, Lists};
+use crate::lines::GROUP_LINE;
+use crate::lines::UNIT_LINE;
 use crate::lines::lay_day_line;
 use crate::lines::lay_end_line;
 use crate::lines::lay_refused_line;
@@ -18,7 +20,9 @@ use day::offer::Step;
 use day::offer::offer;
 use day::value::Day;
 use records::group::GroupRecord;
+use records::group_result::GroupResult;
 use records::unit::UnitRecord;
+use records::unit_result::UnitResult;
 use std::num::wrapping_add_u64;
 use terms::refusal::Refusal;
 use walk::table::Role;
@@ -31,10 +35,12 @@ pub struct Listing {
 }
 
 impl Listing {
-    // A block's most bytes, and those of its lines.
-    pub const BLOCK: usize = GroupRecord::LEN + UnitRecord::LEN * (GroupRecord::UNITS as usize);
+    // A block's most bytes, those of its result, and those of its lines.
+    pub const BLOCK: usize = GroupRecord::LEN + UnitRecord::LEN * GroupRecord::UNITS;
 
-    pub const LINES: usize = 4120;
+    pub const RESULT: usize = GroupResult::LEN + UnitResult::LEN * GroupRecord::UNITS;
+
+    pub const LINES: usize = GROUP_LINE + UNIT_LINE * GroupRecord::UNITS;
 }
 
 // What was accepted: how many bytes of the input it has, how many its lines have, and the list after it.
@@ -123,10 +129,10 @@ fn list_through(l: Listing, s: &[u8], result: &mut [u8], room: &mut [u8]) -> Lis
     }
 }
 
-fn result_room() -> [u8; 1307]
+fn result_room() -> [u8; Listing::RESULT]
     ensures { λ r. ⌜ longestResult ≡ length r ⌝ }
 {
-    [0; 1307]
+    [0; Listing::RESULT]
 }
 
 fn list_offer(l: Listing, s: &[u8], room: &mut [u8]) -> Listed

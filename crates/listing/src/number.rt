@@ -1,30 +1,62 @@
 // Numbers in decimal, laid at a place of a room.
 ghost use mathlib.Core.Path.{_≡_};
-ghost use Prim.Native.Nat.{_+_, _≤_};
+ghost use mathlib.Core.List.{[], _∷_};
+ghost use Prim.Native.Nat.{_+_, _/_, _≤_, _<_};
 ghost use lib.ListN.{length};
 ghost use Rattle.numbers.specs.Bytes.{laidAt};
-ghost use Rattle.listing.specs.Lines.{decimal};
+ghost use Rattle.numbers.specs.Sum.{bit};
+ghost use Rattle.listing.specs.Lines.{digit, decimal};
+ghost use Rattle.listing.specs.Inner.{Lays};
 use numbers::bytes::lay_u8;
 
 // The digit 0, in ASCII.
 const ZERO: u8 = 48;
 
-// How many digits a number of 32 bits has: nearly all are small, and a comparison costs less than a division.
+// The tenth of a number of two digits: the compiler does not know how small it is, and would divide in more steps.
+fn tenth(n: u32) -> u32
+    requires { ⌜ n < 100 ⌝ }
+    ensures { λ r. ⌜ r ≡ n / 10 ⌝ }
+{
+    n * 103 / 1024
+}
+
+// The hundredth of a number of four digits.
+fn hundredth(n: u32) -> u32
+    requires { ⌜ n < 10000 ⌝ }
+    ensures { λ r. ⌜ r ≡ n / 100 ⌝ }
+{
+    n * 5243 / 524288
+}
+
+// A digit, and the place of the next: behind it, or its own where it is a zero in front.
+fn lay_figure(out: &mut [u8], at: usize, figure: u32, stays: bool) -> usize
+    requires { ⌜ (figure < 10) × (at + 1 ≤ length (now out)) ⌝ }
+    ensures { λ r. ⌜ (now (out .exit) ≡ laidAt (now (out .entry)) at (digit figure ∷ [])) × (r ≡ at + bit stays) ⌝ }
+{
+    lay_u8(out, at, ZERO + figure as u8);
+    at + stays as usize
+}
+
+// Nearly all numbers have at most four digits, and no branch tells how many: a zero in front is laid, and the next digit over it.
+pub fn lay_few(out: &mut [u8], at: usize, n: u32) -> usize
+    requires { ⌜ (n < 10000) × (at + length (decimal n) ≤ length (now out)) ⌝ }
+    ensures { λ r. ⌜ Lays (now (out .entry)) at (decimal n) (length (decimal n)) r (now (out .exit)) ⌝ }
+{
+    let high = hundredth(n);
+    let low = n - high * 100;
+    let first = tenth(high);
+    let third = tenth(low);
+    let second_at = lay_figure(out, at, first, 0 < first);
+    let third_at = lay_figure(out, second_at, high - first * 10, 0 < high);
+    let last_at = lay_figure(out, third_at, third, 9 < n);
+    lay_figure(out, last_at, low - third * 10, true)
+}
+
+// How many digits a number of 32 bits has that is not below 10 ^ 4: a comparison costs less than a division.
 pub fn digit_count(n: u32) -> usize
+    requires { ⌜ 10000 ≤ n ⌝ }
     ensures { λ r. ⌜ r ≡ length (decimal n) ⌝ }
 {
-    if n < 10 {
-        return 1;
-    }
-    if n < 100 {
-        return 2;
-    }
-    if n < 1000 {
-        return 3;
-    }
-    if n < 10000 {
-        return 4;
-    }
     if n < 100000 {
         return 5;
     }

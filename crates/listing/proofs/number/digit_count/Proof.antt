@@ -2,56 +2,31 @@
 use Prim.Native.Nat.{_<_}
 use mathlib.Core.Path.{refl, sym}
 use native.Mathlib.Omega.{arith}
-use Rattle.listing.proofs.Digits.{one-digit, so-many}
+use Rattle.listing.proofs.Digits.{so-many}
 use Rattle.listing.proofs.number.digit_count.Statement.{statement}
 use Rattle.listing.proofs.number.digit_count.Tie as tie
 
 returns : tie.Need-returns
-returns c = sym (one-digit _ (c .if1 .taken))
+returns c = sym (so-many 3 15 _ refl (c .before .pre) (c .if1 .taken))
 
 returns-2 : tie.Need-returns-2
-returns-2 c = sym (so-many 0 18 _ refl (c .before .if1 .left) (c .if2 .taken))
+returns-2 c = sym (so-many 4 14 _ refl (c .before .if1 .left) (c .if2 .taken))
 
 returns-3 : tie.Need-returns-3
-returns-3 c = sym (so-many 1 17 _ refl (c .before .if2 .left) (c .if3 .taken))
+returns-3 c = sym (so-many 5 13 _ refl (c .before .if2 .left) (c .if3 .taken))
 
 returns-4 : tie.Need-returns-4
-returns-4 c = sym (so-many 2 16 _ refl (c .before .if3 .left) (c .if4 .taken))
+returns-4 c = sym (so-many 6 12 _ refl (c .before .if3 .left) (c .if4 .taken))
 
 returns-5 : tie.Need-returns-5
-returns-5 c = sym (so-many 3 15 _ refl (c .before .if4 .left) (c .if5 .taken))
+returns-5 c = sym (so-many 7 11 _ refl (c .before .if4 .left) (c .if5 .taken))
 
 returns-6 : tie.Need-returns-6
-returns-6 c = sym (so-many 4 14 _ refl (c .before .if5 .left) (c .if6 .taken))
-
-returns-7 : tie.Need-returns-7
-returns-7 c = sym (so-many 5 13 _ refl (c .before .if6 .left) (c .if7 .taken))
-
-returns-8 : tie.Need-returns-8
-returns-8 c = sym (so-many 6 12 _ refl (c .before .if7 .left) (c .if8 .taken))
-
-returns-9 : tie.Need-returns-9
-returns-9 c = sym (so-many 7 11 _ refl (c .before .if8 .left) (c .if9 .taken))
-
-returns-10 : tie.Need-returns-10
-returns-10 c =
-    let test5 = c .before .before .before .before in
-    let start = test5 .before .before .before .before .before in
+returns-6 c =
+    let start = c .before .before .before .before .before in
     let n = start .args .n in
     let h : n < 10000000000 = omega arith in
-    sym (so-many 8 10 n refl (c .if9 .left) h)
+    sym (so-many 8 10 n refl (c .if5 .left) h)
 
 pub digit-count-spec : {M : Type 1} → statement M
-digit-count-spec =
-    tie.close
-    (tie.spec
-    returns
-    returns-2
-    returns-3
-    returns-4
-    returns-5
-    returns-6
-    returns-7
-    returns-8
-    returns-9
-    returns-10)
+digit-count-spec = tie.close (tie.spec returns returns-2 returns-3 returns-4 returns-5 returns-6)
