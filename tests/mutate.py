@@ -292,13 +292,14 @@ def regions_of(crate, path, text):
         m = re.match(r"\s*(?:#\[.*\] )?(?:pub )?(?:extern \"C\" )?fn (\w+)", line)
         if m:
             function, header = (kind if line.startswith(" ") else "") + m.group(1), starts[k]
-        if function and body is None and re.fullmatch(r"\s*\{", line):
-            body = (k, line)
-        elif body and line == body[1].replace("{", "}"):
-            head = text[header : starts[body[0]]]
-            m = re.search(r"\(([^)]*)\)", head)
+        # Without a contract, the brace stands behind the header.
+        opening = re.fullmatch(r"(\s*)(?:.*\bfn \w.* |\).* )?\{", line)
+        if function and body is None and opening:
+            body, closing = starts[k] + len(line) - 1, opening.group(1) + "}"
+        elif body and line == closing:
+            m = re.search(r"\(([^)]*)\)", text[header:body])
             kinds = dict(tuple(w.strip() for w in p.split(":", 1)) for p in m.group(1).split(",") if ":" in p)
-            yield Region(crate, path, text, function, starts[body[0]], starts[k] + len(line), kinds)
+            yield Region(crate, path, text, function, body, starts[k] + len(line), kinds)
             function, body = None, None
         m = re.match(r"\s*(?:pub )?const (\w+): [^=]+ = ", line)
         if m and body is None:

@@ -2,7 +2,8 @@
 
 A change has a `crate`, its `pieces`, each a file of the crate as it stands, where a piece of it starts and ends and what
 comes in its place, and the `function` whose body alone it changes, or None. A check starts from the checked modules of
-the crate as it stands, so that the prover checks anew only what the changes touch; the crates must be proved.
+the crate as it stands, so that the prover checks anew only what the changes touch; the first of a program starts from nothing,
+since rt keeps none of its modules. The crates must be proved.
 """
 
 import concurrent.futures
@@ -94,33 +95,29 @@ class Seeds:
     """The checked modules of each crate as it stands, in a copy that no other check touches, by their names and inodes."""
 
     def __init__(self, prover, below):
-        self.prover, self.below, self.lock, self.locks, self.found = prover, below, threading.Lock(), {}, {}
+        self.prover, self.below, self.lock, self.found = prover, below, threading.Lock(), {}
 
     def folder(self, crate):
         return RUN / "seed" / crate / self.prover.folder
 
     def of(self, crate):
+        """rt keeps the checked modules of a library. Of a program there are none before the first check, which leaves those that its
+        changes do not touch."""
         with self.lock:
-            lock = self.locks.setdefault(crate, threading.Lock())
-        with lock:
-            if crate not in self.found:
-                self.make(crate)
-                self.found[crate] = {module.name: module.stat().st_ino for module in self.folder(crate).glob("*.oantt")}
-            return self.found[crate]
+            if crate not in self.found and not is_program(crate):
+                self.keep(crate, ROOT / "target" / "rlib" / f"{crate}.rlib" / "toolchain" / "checked")
+            return self.found.get(crate, {})
 
-    def make(self, crate):
-        """rt keeps the checked modules of a library; those of a program are made by a whole check of it."""
-        shutil.rmtree(RUN / "seed" / crate, ignore_errors=True)
-        if is_program(crate):
-            source = ROOT / "crates" / crate / "src" / "main.rt"
-            verdict, said = self.prover.check(crate, self.below[crate], source, RUN / "seed" / crate)
-            if verdict != PROVED:
-                sys.exit(f"{crate} is not proved as it stands: {complaint(said)}")
-        else:
-            checked = ROOT / "target" / "rlib" / f"{crate}.rlib" / "toolchain" / "checked"
-            if not checked.exists():
-                sys.exit(f"{crate} is not proved: rt check {crate}")
-            shutil.copytree(checked, self.folder(crate))
+    def after(self, crate, modules):
+        with self.lock:
+            if crate not in self.found and modules.exists():
+                self.keep(crate, modules)
+
+    def keep(self, crate, modules):
+        if not modules.exists():
+            sys.exit(f"{crate} is not proved: rt check {crate}")
+        shutil.copytree(modules, self.folder(crate), copy_function=os.link if is_program(crate) else shutil.copy2)
+        self.found[crate] = {module.name: module.stat().st_ino for module in self.folder(crate).glob("*.oantt")}
 
 
 class Bench:
@@ -168,7 +165,9 @@ class Bench:
             # A bench that holds the crate puts back its sources alone.
             if not file.startswith("src/"):
                 self.holds = None
-        return self.prover.check(crate, self.below[crate], self.root(crate), self.place / f"{crate}.modules")
+        told = self.prover.check(crate, self.below[crate], self.root(crate), self.place / f"{crate}.modules")
+        self.seeds.after(crate, self.place / f"{crate}.modules" / self.prover.folder)
+        return told
 
 
 def replaced(text, pieces):
@@ -263,7 +262,7 @@ def lots_of(changes, most=LOT):
 
 class Work:
     """The lots still to try, by crate. A bench goes on with the crate that it holds and then takes one that no other holds:
-    programs first, since a whole check of each comes before their changes, and then what has most lots. At last it helps another."""
+    programs first, since the first check of each is of the whole program, and then what has most lots. At last it helps another."""
 
     def __init__(self, lots):
         self.lock, self.held, self.left = threading.Lock(), {}, {}
