@@ -17,6 +17,8 @@ import time
 ROOT = pathlib.Path(__file__).resolve().parent.parent
 SECONDS = ROOT / "target" / "seconds.tsv"
 TOGETHER = 2
+# rt starts so many crates that do not need each other and waits for all of them: with one more than the processors, short ones fill in.
+JOBS = os.environ.get("RT_JOBS") or str((os.cpu_count() or 1) + 1)
 
 
 class Part:
@@ -111,7 +113,7 @@ def keep(parts, whole):
 def main():
     os.environ["LC_ALL"] = "C.UTF-8"
     start = time.monotonic()
-    parts = [Part("rt fmt --check", ["tests/layout"]), Part("rt ci", ["rt", "ci"])]
+    parts = [Part("rt fmt --check", ["tests/layout"]), Part("rt ci", ["env", f"RT_JOBS={JOBS}", "rt", "ci"])]
     for part in parts:
         tell(part)
     tests = [Part(f"tests/gate/{path.name}", [path], path.read_text()) for path in sorted((ROOT / "tests" / "gate").iterdir())]

@@ -7,6 +7,8 @@ Contracts, comments, `use` items and declarations of types are left alone.
 
 import re
 
+import prover
+
 TOKEN = re.compile(
     r"//[^\n]*|\s+|[A-Za-z_]\w*|\d+(?:[ui](?:8|16|32|64|size))?|<=|>=|==|!=|&&|\|\||=>|->|\+=|-=|::|\.\.|'[a-z]+|."
 )
@@ -22,12 +24,10 @@ OPEN, CLOSE = "([{", ")]}"
 class Mutant:
     """One replacement in one file: the characters from `start` to `end` become `new`."""
 
-    def __init__(self, crate, path, name, start, end, new, constant):
-        self.crate, self.path, self.name = crate, path, name
-        self.start, self.end, self.new, self.constant = start, end, new, constant
-
-    def of(self, text):
-        return text[: self.start] + self.new + text[self.end :]
+    def __init__(self, region, name, start, end, new):
+        self.crate, self.name, self.function = region.crate, name, region.function
+        self.start, self.new, self.pieces = start, new, [(f"src/{region.path.name}", start, end, new)]
+        self.constant = None if region.function else region.name
 
 
 class Token:
@@ -98,6 +98,7 @@ class Region:
     def __init__(self, crate, path, text, name, start, end, kinds):
         self.crate, self.path, self.text, self.name, self.kinds = crate, path, text, name, kinds
         self.start, self.end = start, end
+        self.function = None if kinds is None else prover.Function(self)
         self.tokens = tokens_of(text, start, end)
         self.partner = {}
         stack = []
@@ -112,7 +113,7 @@ class Region:
         line = self.text.count("\n", self.start, at)
         column = at - self.text.rfind("\n", 0, at)
         name = f"{self.crate}/{self.path.name}:{self.name}:{line}:{column}-{edit}"
-        return Mutant(self.crate, self.path, name, at, end, new, self.name if self.kinds is None else None)
+        return Mutant(self, name, at, end, new)
 
     def is_literal(self, i):
         """Whether the brace opens a struct literal."""
@@ -291,13 +292,14 @@ def regions_of(crate, path, text):
         m = re.match(r"\s*(?:#\[.*\] )?(?:pub )?(?:extern \"C\" )?fn (\w+)", line)
         if m:
             function, header = (kind if line.startswith(" ") else "") + m.group(1), starts[k]
-        if function and body is None and re.fullmatch(r"\s*\{", line):
-            body = (k, line)
-        elif body and line == body[1].replace("{", "}"):
-            head = text[header : starts[body[0]]]
-            m = re.search(r"\(([^)]*)\)", head)
+        # Without a contract, the brace stands behind the header.
+        opening = re.fullmatch(r"(\s*)(?:.*\bfn \w.* |\).* )?\{", line)
+        if function and body is None and opening:
+            body, closing = starts[k] + len(line) - 1, opening.group(1) + "}"
+        elif body and line == closing:
+            m = re.search(r"\(([^)]*)\)", text[header:body])
             kinds = dict(tuple(w.strip() for w in p.split(":", 1)) for p in m.group(1).split(",") if ":" in p)
-            yield Region(crate, path, text, function, starts[body[0]], starts[k] + len(line), kinds)
+            yield Region(crate, path, text, function, body, starts[k] + len(line), kinds)
             function, body = None, None
         m = re.match(r"\s*(?:pub )?const (\w+): [^=]+ = ", line)
         if m and body is None:

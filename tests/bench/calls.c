@@ -4,7 +4,8 @@
  *   calls judge PROGRAM CASE UNITS ROUNDS    judges the blocks in so many rounds, for a count from outside
  *   calls time CASE UNITS ROUNDS             prints nanoseconds a block of each program, a line for each round
  *   calls block CASE UNITS                   writes a day record and one block
- *   calls day BLOCKS                         writes a day of so many blocks of all cases and sizes, for the list
+ *   calls blocks CASE UNITS                  writes the blocks of a round
+ *   calls day KIND BLOCKS                    writes a day of so many blocks of all sizes, of one case or, by `mix`, of all in turn
  *
  * A round judges BLOCKS blocks of one case and size with other figures in each: one block again and again would let the
  * processor learn every branch, and flatter code that branches on the figures. */
@@ -154,12 +155,15 @@ static void write_bytes(const uint8_t *bytes, size_t length)
         stop("could not write");
 }
 
-static void write_day(long count)
+static void write_day(const char *kind, long count)
 {
+    const int mixed = strcmp(kind, "mix") == 0;
+    const enum which one = mixed ? CASES : case_named(kind);
     write_bytes(day, sizeof day);
     for (long i = 0; i < count; i++) {
         const int units = 1 + (int)(i * 37 % FLEHWELLA_UNITS_MAX);
-        write_bytes(blocks[0], put_block(blocks[0], (int)(i / QUARTERS), (int)(i % QUARTERS), (enum which)(i % CASES), units, (uint64_t)i + 1));
+        const enum which which = mixed ? (enum which)(i % CASES) : one;
+        write_bytes(blocks[0], put_block(blocks[0], (int)(i / QUARTERS), (int)(i % QUARTERS), which, units, (uint64_t)i + 1));
     }
     uint8_t end[SECOND_END_LENGTH];
     put(put(end, 1, SECOND_KIND_END), 4, (uint32_t)count);
@@ -187,10 +191,15 @@ int main(int words, char **word)
     } else if (strcmp(what, "block") == 0 && words == 4) {
         write_bytes(day, sizeof day);
         write_bytes(blocks[0], put_block(blocks[0], 7, 40, case_named(word[2]), units_told(word[3]), 1));
-    } else if (strcmp(what, "day") == 0 && words == 3) {
-        write_day(atol(word[2]));
+    } else if (strcmp(what, "blocks") == 0 && words == 4) {
+        const int units = units_told(word[3]);
+        put_blocks(case_named(word[2]), units);
+        for (int i = 0; i < BLOCKS; i++)
+            write_bytes(blocks[i], FLEHWELLA_BLOCK_LENGTH((size_t)units));
+    } else if (strcmp(what, "day") == 0 && words == 4) {
+        write_day(word[2], atol(word[3]));
     } else {
-        stop("same SEEDS, judge PROGRAM CASE UNITS ROUNDS, time CASE UNITS ROUNDS, block CASE UNITS, day BLOCKS");
+        stop("same SEEDS, judge PROGRAM CASE UNITS ROUNDS, time CASE UNITS ROUNDS, block or blocks CASE UNITS, day KIND BLOCKS");
     }
     return 0;
 }

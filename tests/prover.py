@@ -1,0 +1,294 @@
+"""Changes of the crates' files put before the prover, several in one check where they are of different functions.
+
+A change has a `crate`, its `pieces`, each a file of the crate as it stands, where a piece of it starts and ends and what
+comes in its place, and the `function` whose body alone it changes, or None. A check starts from the checked modules of
+the crate as it stands, so that the prover checks anew only what the changes touch; the first of a program starts from nothing,
+since rt keeps none of its modules. The crates must be proved.
+"""
+
+import concurrent.futures
+import os
+import pathlib
+import platform
+import re
+import shutil
+import subprocess
+import sys
+import threading
+
+ROOT = pathlib.Path(__file__).resolve().parent.parent
+# What this run works on: checked modules, and a bench for each job.
+RUN = ROOT / "target" / "mutants" / f"run-{os.getpid()}"
+TIMEOUT = 300
+# The changes of one check: with more of them little is saved, and the jobs end less evenly.
+LOT = 16
+# Errors that only say that a proof names what the changed code no longer has, or rests on another that was refused.
+NAMING = ("that can be named from here", "was not admitted", "has no field")
+REFUSED, PROVED, REJECTED, UNTOLD = "refused", "still proved", "does not compile", "could not tell"
+
+
+def crates():
+    """Each crate of crates.txt and those that it stands on."""
+    found = {}
+    for line in (ROOT / "crates.txt").read_text().split("\n"):
+        name, colon, below = line.split("#")[0].partition(":")
+        if colon:
+            found[name.strip()] = below.split()
+    return found
+
+
+def is_program(crate):
+    return (ROOT / "crates" / crate / "src" / "main.rt").exists()
+
+
+class Prover:
+    """The kit's prover, called as rt calls it."""
+
+    def __init__(self):
+        rt = shutil.which("rt") or sys.exit(f"{sys.argv[0]}: rt is not on the PATH")
+        home = pathlib.Path(os.environ.get("RATTLE_HOME") or pathlib.Path(rt).resolve().parent.parent)
+        self.kit = home / "on" / platform.machine()
+        self.logic = ["--antt-project", home / "logic" / "antt-project.json", "--logic-built", self.kit / "logic-built"]
+        self.folder = self.folder_of_modules()
+
+    def check(self, crate, below, file, incremental, built={}):
+        """The verdict on a crate, over the libraries of target/rlib or those built in their place."""
+        return self.run("check", crate, below, file, ["--incremental", incremental], built)
+
+    def build(self, crate, below, file, library, built={}):
+        return self.run("build", crate, below, file, ["-o", library], built)
+
+    def run(self, verb, crate, below, file, more, built):
+        words = [self.kit / "bin" / "rattle", verb, "--crate-name", crate, file]
+        for name in ["std"] + below:
+            own = built.get(name, ROOT / "target" / "rlib" / f"{name}.rlib")
+            words += ["--extern", f"{name}={own if own.exists() else self.kit / 'rlib' / f'{name}.rlib'}"]
+        words += ["-L", f"dependency={ROOT / 'target' / 'rlib'}", "-L", f"dependency={self.kit / 'rlib'}"]
+        words += self.logic + more
+        try:
+            ran = subprocess.run(words, stdout=subprocess.PIPE, stderr=subprocess.STDOUT, timeout=TIMEOUT)
+        except subprocess.TimeoutExpired:
+            return UNTOLD, ""
+        said = ran.stdout.decode("utf-8", "replace")
+        verdict = [line for line in said.split("\n") if line.startswith("logic=")]
+        if ran.returncode == 0 and verdict and verdict[-1].startswith("logic=proved"):
+            return PROVED, said
+        if ran.returncode == 1 and verdict and verdict[-1].startswith("logic=not-proved"):
+            return REFUSED, said
+        return (UNTOLD if ran.returncode == 3 else REJECTED), said
+
+    def folder_of_modules(self):
+        """What this build of the prover calls the folder of checked modules, told by a check of one function."""
+        crate, modules = RUN / "one", RUN / "one.modules"
+        shutil.rmtree(modules, ignore_errors=True)
+        (crate / "src").mkdir(parents=True, exist_ok=True)
+        (crate / "src" / "lib.rt").write_text("pub fn one() -> u8 {\n    1\n}\n")
+        self.check("one", [], crate / "src" / "lib.rt", modules)
+        return next(modules.iterdir()).name
+
+
+def remove(path):
+    shutil.rmtree(path) if path.is_dir() else path.unlink()
+
+
+class Seeds:
+    """The checked modules of each crate as it stands, in a copy that no other check touches, by their names and inodes."""
+
+    def __init__(self, prover, below):
+        self.prover, self.below, self.lock, self.found = prover, below, threading.Lock(), {}
+
+    def folder(self, crate):
+        return RUN / "seed" / crate / self.prover.folder
+
+    def of(self, crate):
+        """rt keeps the checked modules of a library. Of a program there are none before the first check, which leaves those that its
+        changes do not touch."""
+        with self.lock:
+            if crate not in self.found and not is_program(crate):
+                self.keep(crate, ROOT / "target" / "rlib" / f"{crate}.rlib" / "toolchain" / "checked")
+            return self.found.get(crate, {})
+
+    def after(self, crate, modules):
+        with self.lock:
+            if crate not in self.found and modules.exists():
+                self.keep(crate, modules)
+
+    def keep(self, crate, modules):
+        if not modules.exists():
+            sys.exit(f"{crate} is not proved: rt check {crate}")
+        shutil.copytree(modules, self.folder(crate), copy_function=os.link if is_program(crate) else shutil.copy2)
+        self.found[crate] = {module.name: module.stat().st_ino for module in self.folder(crate).glob("*.oantt")}
+
+
+class Bench:
+    """A place where one crate at a time is checked with changes made."""
+
+    def __init__(self, seeds, number):
+        self.seeds, self.prover, self.below = seeds, seeds.prover, seeds.below
+        self.place, self.holds = RUN / f"bench-{number}", None
+
+    def lay(self, crate):
+        """A copy of the crate, and its checked modules: links suffice, since the prover replaces a file and never writes into it."""
+        for part in ("src",) if self.holds == crate else ("src", "specs", "proofs"):
+            if (ROOT / "crates" / crate / part).exists():
+                shutil.copytree(ROOT / "crates" / crate / part, self.place / crate / part, dirs_exist_ok=True)
+        modules, seed = self.place / f"{crate}.modules" / self.prover.folder, self.seeds.of(crate)
+        modules.mkdir(parents=True, exist_ok=True)
+        there = {entry.name: entry.inode() for entry in os.scandir(modules)}
+        for name in there:
+            if there[name] != seed.get(name):
+                remove(modules / name)
+        for name in seed:
+            if there.get(name) != seed[name]:
+                os.link(self.seeds.folder(crate) / name, modules / name)
+
+    def root(self, crate):
+        return self.place / crate / "src" / ("main.rt" if is_program(crate) else "lib.rt")
+
+    def hold(self, crate):
+        """The crate as it stands; what the last changes of the same crate touched is put back."""
+        if self.holds != crate:
+            shutil.rmtree(self.place, ignore_errors=True)
+        self.lay(crate)
+        self.holds = crate
+
+    def check(self, crate, changes=()):
+        """The verdict on the crate with the changes made."""
+        self.hold(crate)
+        pieces = {}
+        for change in changes:
+            for file, *piece in change.pieces:
+                pieces.setdefault(file, []).append(piece)
+        for file in pieces:
+            path = self.place / crate / file
+            path.write_text(replaced(path.read_text(), pieces[file]))
+            # A bench that holds the crate puts back its sources alone.
+            if not file.startswith("src/"):
+                self.holds = None
+        told = self.prover.check(crate, self.below[crate], self.root(crate), self.place / f"{crate}.modules")
+        self.seeds.after(crate, self.place / f"{crate}.modules" / self.prover.folder)
+        return told
+
+
+def replaced(text, pieces):
+    """The text with its pieces replaced; lines stay where they are, since an error is told by its line."""
+    for start, end, new in sorted(pieces, reverse=True):
+        kept = "\n" * (text.count("\n", start, end) - new.count("\n"))
+        text = text[:start] + new + kept + text[end:]
+    return text
+
+
+def errors_of(said):
+    return [line for line in said.split("\n") if ": error" in line or line.startswith("error")]
+
+
+def facts_of(said):
+    """What tells of a fact that no longer holds: an error, or a search that does not close."""
+    errors = [line for line in errors_of(said) if not any(words in line for words in NAMING)]
+    return errors + [line for line in said.split("\n") if line.startswith("fn ") and "`search` does not close" in line]
+
+
+def in_crate(line):
+    """A line as it reads in the crate's folder."""
+    return re.sub(r"/\S*/bench-\d+/\w+/", "", line)[:200]
+
+
+def complaint(said):
+    """The first line that tells of a fact; else the first error of any kind, or of a function that is not proved."""
+    errors, facts = errors_of(said), facts_of(said)
+    if errors and not facts:
+        return "by name only: " + in_crate(errors[0])
+    unproved = [line for line in said.split("\n") if line.startswith("fn ") and not line.endswith(": proved")]
+    return in_crate((facts + unproved + [""])[0])
+
+
+class Function:
+    """A function's place in its crate: its name, where its proof stands, and the lines of its body."""
+
+    def __init__(self, region):
+        path = [region.path.stem] * (region.path.stem not in ("lib", "main")) + region.name.split("::")
+        self.name = "::".join([region.crate, *path])
+        self.proof = "/".join(["", "proofs", *path, "Proof.antt:"])
+        self.source = re.compile(rf"/src/{re.escape(region.path.name)}:(\d+):")
+        self.lines = range(region.text.count("\n", 0, region.start) + 1, region.text.count("\n", 0, region.end) + 2)
+
+    def has(self, fact):
+        """Whether it is in its own proof, or in the search for one where it has no file, that a fact no longer holds."""
+        return fact.startswith(f"fn {self.name}: ") or self.proof in fact and not fact.startswith("fn ")
+
+    def is_rejected(self, said):
+        """Whether the compiler rejects a line of its body."""
+        places = (self.source.search(error) for error in errors_of(said))
+        return any(place and int(place.group(1)) in self.lines for place in places)
+
+
+def told_together(bench, lot):
+    """Of changes of different functions of a crate, made at once: those that their own functions' proofs refuse, each with the error.
+
+    A function is proved from the contracts of those that it calls, so that an error of a fact in its proof comes from its own
+    change. Of a change that is not told of, nothing is known: its error may be hidden by that of a function that it calls. Where
+    the compiler rejects some, the others are made once more; where a fact no longer holds anywhere else, the lot tells of none.
+    """
+    while len(lot) > 1:
+        verdict, said = bench.check(lot[0].crate, lot)
+        if verdict == REFUSED:
+            facts = facts_of(said)
+            own = {change: [fact for fact in facts if change.function.has(fact)] for change in lot}
+            strayed = len(facts) > sum(map(len, own.values()))
+            return {} if strayed else {change: in_crate(found[0]) for change, found in own.items() if found}
+        rejected = [change for change in lot if change.function.is_rejected(said)]
+        if verdict != REJECTED or not rejected:
+            return {}
+        lot = [change for change in lot if change not in rejected]
+    return {}
+
+
+def lots_of(changes, most=LOT):
+    """Changes of one crate in lots of at most so many: in each at most one of a function, and one of anything else by itself."""
+    alone, of = [], {}
+    for change in changes:
+        if change.function is None:
+            alone.append([change])
+        else:
+            of.setdefault(change.function.name, []).append(change)
+    lots = []
+    while of:
+        # Functions with most changes left come first, so that few are left over to be tried by themselves.
+        longest = sorted(of, key=lambda name: -len(of[name]))[:most]
+        lots.append([of[name].pop(0) for name in longest])
+        of = {name: left for name, left in of.items() if left}
+    return alone + lots
+
+
+class Work:
+    """The lots still to try, by crate. A bench goes on with the crate that it holds and then takes one that no other holds:
+    programs first, since the first check of each is of the whole program, and then what has most lots. At last it helps another."""
+
+    def __init__(self, lots):
+        self.lock, self.held, self.left = threading.Lock(), {}, {}
+        for lot in lots:
+            self.left.setdefault(lot[0].crate, []).append(lot)
+
+    def next(self, number):
+        with self.lock:
+            left = [crate for crate in self.left if self.left[crate]]
+            if not left:
+                return None
+            if self.held.get(number) not in left:
+                free = [crate for crate in left if crate not in self.held.values()]
+                self.held[number] = max(free or left, key=lambda crate: (is_program(crate), len(self.left[crate])))
+            return self.left[self.held[number]].pop()
+
+
+def try_all(lots, seeds, jobs, try_lot):
+    """Hands each lot to `try_lot` with a bench, so many at a time."""
+    work = Work(lots)
+
+    def one(number):
+        bench = Bench(seeds, number)
+        while lot := work.next(number):
+            try_lot(bench, lot)
+
+    with concurrent.futures.ThreadPoolExecutor(jobs) as pool:
+        for done in [pool.submit(one, number) for number in range(jobs)]:
+            done.result()
