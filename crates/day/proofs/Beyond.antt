@@ -33,11 +33,12 @@ use Rattle.walk.specs.Table.{roleOf, isBlock, headAt, headIn}
 use Rattle.walk.proofs.Bodies.{body-short}
 use Rattle.walk.proofs.Coming.{is-block, lengthIn}
 use Rattle.day.specs.declared.value.Day.{Day}
-use Rattle.day.specs.declared.check.Block.{Block}
+use Rattle.blocks.specs.declared.check.Block.{Block}
 use Rattle.day.specs.declared.offer.Step.{Step}
 use Rattle.day.specs.Days.{opened, counted, closed}
-use Rattle.day.specs.Checking.{blockOf, blockFieldsOf}
-use Rattle.day.specs.Blocks.{resultIn, blockKey, blockCount, blockResult}
+use Rattle.blocks.specs.Checking.{blockOf}
+use Rattle.day.specs.Checking.{blockFieldsOf}
+use Rattle.blocks.specs.Blocks.{resultIn, blockKey, blockCount, blockResult}
 use Rattle.day.specs.Offers.{headFor, dayTaken, blockTaken, endTaken, taken, offerOf, writtenOf}
 use Rattle.day.proofs.ByKind.{head-came}
 use Rattle.day.proofs.Outcomes.{taken-block}

@@ -20,7 +20,7 @@ use Rattle.walk.specs.Table.{headIn}
 use Rattle.walk.proofs.Coming.{block-open, lengthIn, Came, came}
 use Rattle.day.specs.declared.value.Day.{Day}
 use Rattle.day.specs.Days.{couldBeOpen, possible}
-use Rattle.day.specs.Blocks.{blockResult}
+use Rattle.blocks.specs.Blocks.{blockResult}
 use Rattle.day.specs.Offers.{headFor, dayTaken, blockTaken, endTaken, taken, offerOf, writtenOf}
 
 module _ (day : Day) (s : List ℕ) where

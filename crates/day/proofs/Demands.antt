@@ -22,12 +22,12 @@ use Rattle.day.specs.declared.offer.Step.{Step}
 use Rattle.day.specs.declared.offer.Offered.{Offered}
 use Rattle.day.specs.declared.offer.Offered.the-variants as O
 use Rattle.day.specs.Days.{counted}
-use Rattle.day.specs.Blocks.{groupResult, blockKey, blockCount, blockGroup, blockResult, unitResult}
+use Rattle.blocks.specs.Blocks.{groupResult, blockKey, blockCount, blockGroup, blockResult, unitResult}
 use Rattle.day.specs.Offers.{dayAfter, roomAfter, writtenOf, Offering, Offers}
 use Rattle.day.proofs.Taking.{refuses, takes}
 use Rattle.day.proofs.Read.{read}
 use Rattle.day.proofs.Outcomes.{TakenBlock, taken-block, reply, laid-out, result-at-front, rest-kept}
-use Rattle.day.proofs.ReadBack.{group-back, unit-back}
+use Rattle.blocks.proofs.ReadBack.{group-back, unit-back}
 use Rattle.records.proofs.Sayable.{Sayable, value, reason}
 use Rattle.day.proofs.Sayable.{offer-sayable}
 use Rattle.day.proofs.Unique.{Same, offering-unique}

@@ -1,17 +1,12 @@
 -- Laws of the day.
 pub mod Lengths
-pub mod Filling
-pub mod Laying
 pub mod Read
-pub mod Units
-pub mod Telling
-pub mod Passing
+pub mod Counting
 pub mod Taking
 pub mod ByKind
 pub mod Outcomes
 pub mod Beyond
 pub mod Walking
-pub mod ReadBack
 pub mod Sayable
 pub mod Written
 pub mod Unique

@@ -20,12 +20,13 @@ use Rattle.walk.specs.declared.table.Head.{Head}
 use Rattle.walk.specs.Table.{roleOf, isBlock}
 use Rattle.walk.proofs.Coming.{is-block}
 use Rattle.day.specs.declared.value.Day.{Day}
-use Rattle.day.specs.declared.check.Block as checked
+use Rattle.blocks.specs.declared.check.Block as checked
 use Rattle.day.specs.declared.offer.Step.{Step}
 use Rattle.day.specs.declared.offer.Offered.the-variants as O
 use Rattle.day.specs.Days.{opened, counted, closed}
-use Rattle.day.specs.Checking.{blockOf, blockFieldsOf}
-use Rattle.day.specs.Blocks.{blockKey, blockCount, blockResult}
+use Rattle.blocks.specs.Checking.{blockOf}
+use Rattle.day.specs.Checking.{blockFieldsOf}
+use Rattle.blocks.specs.Blocks.{blockKey, blockCount, blockResult}
 use Rattle.day.specs.Offers.{headFor, dayTaken, blockTaken, endTaken, taken, offerOf, writtenOf, roomAfter, Offers}
 use Rattle.day.proofs.Read.{read}
 use Rattle.day.proofs.Taking.{result-length}

@@ -6,7 +6,7 @@ use mathlib.Core.Logic.{⊎-elim}
 use Rattle.records.specs.Reading.{follows, groupFieldsOf}
 use Rattle.day.specs.declared.value.Day.{Day}
 use Rattle.day.specs.Checking.{blockFieldsOf}
-use Rattle.day.specs.Blocks.{blockKey}
+use Rattle.blocks.specs.Blocks.{blockKey}
 use Rattle.day.specs.Offers.{writtenOf}
 use Rattle.day.specs.WholeDays.{Part, part, Run, none, more, AcceptedDay}
 use Rattle.day.proofs.Outcomes.{result-at-front}

@@ -20,7 +20,7 @@ use Rattle.writers.proofs.Lengths.{length-group-result, length-results}
 use Rattle.day.specs.declared.value.Day.{Day}
 use Rattle.day.specs.declared.offer.Step.{Step}
 use Rattle.day.specs.declared.offer.Offered.the-variants as O
-use Rattle.day.specs.Blocks.{groupIn, groupResult, unitResults, resultIn}
+use Rattle.blocks.specs.Blocks.{groupIn, groupResult, unitResults, resultIn}
 use Rattle.day.specs.Days.{opened, closed}
 use Rattle.day.specs.Offers.{dayTaken, endTaken, dayAfter, roomAfter, Gave, Offering}
 

@@ -6,12 +6,13 @@ use Rattle.terms.specs.Reply.{Reply}
 use Rattle.terms.proofs.Replies.{never}
 use Rattle.terms.proofs.Same.{refusal-same}
 use Rattle.day.specs.declared.value.Day.{Day}
-use Rattle.day.specs.declared.check.BlockAnswer.{BlockAnswer}
-use Rattle.day.specs.declared.check.BlockAnswer.the-variants as B
+use Rattle.blocks.specs.declared.check.BlockAnswer.{BlockAnswer}
+use Rattle.blocks.specs.declared.check.BlockAnswer.the-variants as B
 use Rattle.day.specs.declared.offer.Step.{Step}
 use Rattle.day.specs.declared.offer.Offered.{Offered}
 use Rattle.day.specs.declared.offer.Offered.the-variants as O
-use Rattle.day.specs.Checking.{blockReply, checkOf}
+use Rattle.blocks.specs.Checking.{blockReply}
+use Rattle.day.specs.Checking.{checkOf}
 use Rattle.day.specs.Offers.{offerReply, dayBack, Offering, Offers}
 
 pub block-answer-same : (a b : BlockAnswer) → blockReply a ≡ blockReply b → a ≡ b

@@ -24,9 +24,9 @@ use Rattle.walk.specs.Extents.{from, headed, Blocks, block, ending, DayOf, open
 use Rattle.walk.proofs.Coming.{came, head-moved}
 use Rattle.walk.proofs.Visits.{walk-visits}
 use Rattle.day.specs.declared.value.Day.{Day}
-use Rattle.day.specs.declared.check.Block as checked
+use Rattle.blocks.specs.declared.check.Block as checked
 use Rattle.day.specs.Days.{fresh, opened, closed}
-use Rattle.day.specs.Checking as Checking
+use Rattle.blocks.specs.Checking as Checking
 use Rattle.day.specs.Checking.{blockFieldsOf}
 use Rattle.day.specs.declared.offer.Step.{Step}
 use Rattle.day.specs.Offers.{headFor, dayTaken, endTaken, offerOf}

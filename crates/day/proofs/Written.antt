@@ -29,9 +29,10 @@ use Rattle.walk.specs.Table.{headIn, blockHeadIn}
 use Rattle.records.proofs.Fields.{past}
 use Rattle.walk.proofs.Coming.{came, day-comes, group-comes, end-comes, block-came}
 use Rattle.day.specs.declared.value.Day.{Day}
-use Rattle.day.specs.declared.check.Block.{Block}
+use Rattle.blocks.specs.declared.check.Block.{Block}
 use Rattle.day.specs.Days.{opened, counted, closed, couldBeOpen, possible}
-use Rattle.day.specs.Checking.{blockOf, blockFieldsOf, checkOf}
+use Rattle.blocks.specs.Checking.{blockOf}
+use Rattle.day.specs.Checking.{blockFieldsOf, checkOf}
 use Rattle.day.specs.Offers.{headFor, dayTaken, blockTaken, endTaken, offerOf}
 use Rattle.day.proofs.ByKind.{offer-day, offer-block, offer-end}
 

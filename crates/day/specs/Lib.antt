@@ -1,7 +1,5 @@
 -- A day, and what is offered to it.
 pub mod Days
 pub mod Checking
-pub mod Blocks
-pub mod Inner
 pub mod Offers
 pub mod WholeDays

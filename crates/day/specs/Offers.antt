@@ -19,7 +19,7 @@ use Rattle.day.specs.declared.offer.Offered.{Offered}
 use Rattle.day.specs.declared.offer.Offered.the-variants as O
 use Rattle.day.specs.Days.{opened, counted, closed, possible}
 use Rattle.day.specs.Checking.{blockFieldsOf}
-use Rattle.day.specs.Blocks.{blockResult}
+use Rattle.blocks.specs.Blocks.{blockResult}
 
 -- the head of what is offered: 1 if empty, 2, 1
 unfoldable pub headFor : Day → List ℕ → Reply Head

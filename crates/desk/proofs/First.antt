@@ -18,7 +18,7 @@ use Rattle.walk.proofs.Coming.{BlockCame, block-came}
 use Rattle.day.specs.declared.offer.Step.{Step}
 use Rattle.day.specs.declared.offer.Offered.{Offered}
 use Rattle.day.specs.Days.{opened}
-use Rattle.day.specs.Blocks.{blockResult}
+use Rattle.blocks.specs.Blocks.{blockResult}
 use Rattle.day.specs.Offers.{headFor, blockTaken, offerOf, offerReply, roomAfter, Offering}
 use Rattle.day.proofs.ByKind.{offer-block}
 use Rattle.day.proofs.Read.{read}

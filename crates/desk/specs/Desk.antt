@@ -10,7 +10,7 @@ use Rattle.records.specs.Reading.{dayOf}
 use Rattle.walk.specs.Table.{blockHeadIn}
 use Rattle.day.specs.declared.offer.Step.{Step}
 use Rattle.day.specs.Days.{opened}
-use Rattle.day.specs.Blocks.{blockResult}
+use Rattle.blocks.specs.Blocks.{blockResult}
 use Rattle.day.specs.Offers.{offerOf, roomAfter}
 
 -- the block counts as the first of its day; one that opens with a kind other than 02h is 2

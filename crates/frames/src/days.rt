@@ -12,7 +12,7 @@ use crate::laying::short;
 use crate::steps::HIGHEST;
 use crate::steps::number_of;
 use crate::steps::state_of;
-use day::check::BlockAnswer;
+use blocks::check::BlockAnswer;
 use day::check::check_block;
 use day::offer::Offered;
 use day::offer::Step;

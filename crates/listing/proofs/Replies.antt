@@ -26,11 +26,11 @@ use Rattle.day.specs.declared.value.Day.{Day}
 use Rattle.records.specs.Longest.{longestResult}
 use Rattle.day.specs.declared.offer.Step.{Step}
 use Rattle.day.specs.declared.offer.Offered.the-variants as O
-use Rattle.day.specs.Blocks.{groupResult, blockKey, blockCount, blockGroup, blockResult}
+use Rattle.blocks.specs.Blocks.{groupResult, blockKey, blockCount, blockGroup, blockResult}
 use Rattle.day.specs.Offers.{headFor, offerOf, writtenOf, Offers}
 use Rattle.day.proofs.Taking.{result-length}
 use Rattle.day.proofs.Outcomes.{taken-block, reply}
-use Rattle.day.proofs.ReadBack.{group-back, unit-back}
+use Rattle.blocks.proofs.ReadBack.{group-back, unit-back}
 use Rattle.day.proofs.Demands.{block-accepted, result-bytes, group-told, unit-told}
 use Rattle.listing.specs.declared.list.Listing.{Listing}
 use Rattle.listing.specs.declared.list.Listed.{Listed}

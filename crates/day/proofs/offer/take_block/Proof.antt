@@ -5,9 +5,10 @@ use Rattle.terms.specs.Reply.{is, need, next}
 use Rattle.records.specs.Answers.{groupReply}
 use Rattle.day.specs.Checking.{blockFieldsOf}
 use Rattle.day.specs.Offers.{blockTaken}
-use Rattle.day.specs.Inner.{unitsTaken, blockAfter}
+use Rattle.blocks.specs.Inner.{unitsTaken, blockAfter}
 use Rattle.records.proofs.Read.{group-passed}
-use Rattle.day.proofs.Telling.{took-long, block-then}
+use Rattle.blocks.proofs.Telling.{took-long}
+use Rattle.day.proofs.Counting.{block-then}
 use Rattle.day.proofs.Taking.{refuses-room, takes-room, result-length}
 use borrow.Author.Needs.{needs}
 use Rattle.day.proofs.offer.take_block.Statement.{statement}

@@ -1,0 +1,8 @@
+-- Laws of a block.
+pub mod Filling
+pub mod Laying
+pub mod Sound
+pub mod Units
+pub mod Telling
+pub mod Passing
+pub mod ReadBack

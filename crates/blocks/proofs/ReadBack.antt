@@ -1,0 +1,95 @@
+-- The result of a block that was accepted, read by the layouts, gives the values of its group: each fits its field.
+use Prim.Native.Nat.{ℕ, _+_, _*_, _<_}
+use mathlib.Core.Path.{_≡_, refl, _∙_}
+use mathlib.Core.List.{List, _++_}
+use native.Mathlib.Omega.{arith}
+use lib.IntN.{ℤ, pos, negℤ}
+use lib.ListN.{length, getD}
+use Rattle.numbers.specs.Column.{at}
+use Rattle.numbers.specs.Sum.{sumZ, bit}
+use Rattle.numbers.proofs.Integers.{zarith, neg, minus}
+use Rattle.numbers.proofs.Columns.{column-length, column-at}
+use Rattle.numbers.proofs.Sums.{sum64-within}
+use Rattle.group.specs.Steps.{reasonOf}
+use Rattle.group.specs.Group.{Group, marginsAt, position, n1, n2, n3, reasonsAll}
+use Rattle.group.specs.Columns.{sumsOf, sumsBy}
+use Rattle.group.specs.Inner.{Judged}
+use Rattle.group.specs.Accepted.{Accepted}
+use Rattle.group.proofs.Accepting.{judged-by}
+use Rattle.group.proofs.Judging.{n1-classed, n2-small, n3-small, n2-few, s1-within, s3-within}
+use Rattle.records.specs.declared.key.Key.{Key}
+use Rattle.records.specs.Layouts.{groupResultAt, unitResultAt, marginsOf}
+use Rattle.records.specs.Reading.{unitIn}
+use Rattle.records.specs.Decoding.{unitN0, unitImplicit, numbersIn, takenIn}
+use Rattle.writers.specs.Results.{resultOf, resultFrom, resultLength}
+use Rattle.writers.specs.Trips.{HeldGroupResult, HeldUnitResult}
+use Rattle.writers.proofs.Back.{results-back}
+use Rattle.blocks.specs.Blocks.{groupResult, unitResults, resultIn, blockKey, blockCount, blockGroup, unitResult}
+
+-- what an accepted group is judged by
+judged : (g : Group) → Accepted g → Judged (position g) (g .n0) (g .stepDown) (g .stepUp) (g .class) (g .n0)
+judged g a = judged-by g a refl
+
+module _ (g : Group) (a : Accepted g) where
+  group-held : (key : Key) (count : ℕ) → HeldGroupResult (groupResult key count (sumsOf g))
+  unfolding groupResult sumsBy
+  group-held key count =
+      let j = judged g a in
+      let p = j .position-small in
+      let s1 = s1-within j in
+      let s2 = sum64-within (n2 g) (n2-few j) (n2-small j) in
+      let s3 = s3-within j in
+      record {
+        p = omega zarith;
+        s1 = omega zarith;
+        s2 = omega zarith;
+        s3 = omega zarith;
+        balance = omega (zarith, neg (position g), minus (negℤ (position g)) (sumZ (n3 g)));
+      }
+
+  unit-held : (number : List ℕ) (taken : List ℕ) (i : ℕ) → HeldUnitResult (resultOf (unitResults number taken g) i)
+  unfolding resultFrom
+  unit-held number taken i =
+      let j = judged g a in
+      let w0 = a .sound i .n0-small in
+      let w1 = n1-classed j .small i in
+      let w2 = n2-small j i in
+      let w3 = n3-small j i in
+      record { n0 = omega zarith; n1 = omega zarith; n2 = omega zarith; n3 = omega zarith }
+
+reason-at : (taken : List ℕ) (n0 x1 x2 x3 down up : List ℤ) (i : ℕ) → i < length n0
+    → getD (reasonsAll taken n0 x1 x2 x3 down up) i 0 ≡ reasonOf (getD taken i 0) (at n0 i) (at x1 i) (at x2 i) (at x3 i) (marginsAt down up i)
+unfolding reasonsAll
+reason-at taken n0 x1 x2 x3 down up i l =
+    column-at (λ k. reasonOf (getD taken k 0) (at n0 k) (at x1 k) (at x2 k) (at x3 k) (marginsAt down up k)) (length n0) i 0 l
+
+module _ (s : List ℕ) (i : ℕ) (l : i < blockCount s) where
+  unit-values : resultOf (unitResults (numbersIn s (blockCount s)) (takenIn s (blockCount s)) (blockGroup s)) i ≡ unitResult s i
+  unfolding resultFrom
+  unit-values =
+      let count = blockCount s in
+      let n : length (blockGroup s .n0) ≡ count = column-length _ count in
+      rw (
+        reason-at (takenIn s count) (blockGroup s .n0) (n1 (blockGroup s)) (n2 (blockGroup s)) (n3 (blockGroup s)) (blockGroup s .stepDown) (blockGroup s .stepUp) i (omega arith),
+        column-at (λ j. unitIn s j .number) count i 0 l,
+        column-at (λ j. bit (unitImplicit (unitIn s j))) count i 0 l,
+        column-at (λ j. unitN0 (unitIn s j)) count i (pos 0) l,
+        column-at (λ j. marginsOf (unitIn s j) .«step_down») count i (pos 0) l,
+        column-at (λ j. marginsOf (unitIn s j) .«step_up») count i (pos 0) l,
+      )
+
+-- bytes that begin with the result of an accepted block
+module _ (s rest exit : List ℕ) (accepted : Accepted (blockGroup s)) (so : exit ≡ resultIn s (blockKey s) (blockCount s) ++ rest) where
+  both-back : (groupResultAt exit 0 ≡ groupResult (blockKey s) (blockCount s) (sumsOf (blockGroup s)))
+      × ((i : ℕ) → i < blockCount s → unitResultAt exit (resultLength i) ≡ resultOf (unitResults (numbersIn s (blockCount s)) (takenIn s (blockCount s)) (blockGroup s)) i)
+  unfolding resultIn groupResult
+  both-back =
+      results-back (groupResult (blockKey s) (blockCount s) (sumsOf (blockGroup s)))
+      (unitResults (numbersIn s (blockCount s)) (takenIn s (blockCount s)) (blockGroup s)) rest exit so
+      (record { group = group-held (blockGroup s) accepted (blockKey s) (blockCount s); unit = λ i _. unit-held (blockGroup s) accepted (numbersIn s (blockCount s)) (takenIn s (blockCount s)) i })
+
+  pub group-back : groupResultAt exit 0 ≡ groupResult (blockKey s) (blockCount s) (sumsOf (blockGroup s))
+  group-back = both-back .0
+
+  pub unit-back : (i : ℕ) → i < blockCount s → unitResultAt exit (resultLength i) ≡ unitResult s i
+  unit-back i l = both-back .1 i l ∙ unit-values s i l

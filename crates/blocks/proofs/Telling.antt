@@ -1,0 +1,141 @@
+-- From the reading of a block's units to the answer: they pass with their columns, or one is refused, and so is the block; then 12, or its result.
+use Prim.Native.Nat.{ℕ, _≤_, _<_}
+use mathlib.Core.Path.{_≡_, refl, sym, ap, _∙_}
+use mathlib.Core.Bool.{Bool, true, false, false≢true}
+use mathlib.Core.List.{List}
+use native.Mathlib.Omega.{arith}
+use borrow.Author.Tests.{leb-true}
+use lib.Dec.{leb}
+use lib.IntN.{ℤ, pos}
+use lib.ListN.{length}
+use Rattle.numbers.specs.Bytes.{laidAt}
+use Rattle.numbers.specs.Column.{at}
+use Rattle.numbers.proofs.Columns.{column-length, column-at}
+use Rattle.terms.specs.Reply.{Reply, is, refused, need, next}
+use Rattle.terms.specs.Refusals.{answer, refusal}
+use Rattle.terms.specs.declared.refusal.Refusal.{Refusal}
+use Rattle.terms.proofs.Replies.{never, need-is, next-is}
+use Rattle.group.specs.Inner.{faultsOf, amountsPass}
+use Rattle.group.specs.Group.{marginsAt}
+use Rattle.group.proofs.Amounts.{amounts-all, amounts-only}
+use Rattle.records.specs.declared.group.GroupRecord.{GroupRecord}
+use Rattle.records.specs.Layouts.{groupLength, groupAt, marginsOf}
+use Rattle.records.specs.Reading.{unitIn, unitsOf}
+use Rattle.records.specs.Decoding.{unitN0}
+use Rattle.writers.specs.Results.{resultLength}
+use Rattle.blocks.specs.declared.check.Block.{Block}
+use Rattle.blocks.specs.declared.check.Told.{Told}
+use Rattle.blocks.specs.declared.check.BlockAnswer.the-variants as B
+use Rattle.blocks.specs.declared.decode.Reading.{Reading}
+use Rattle.blocks.specs.declared.decode.Units.{Units}
+use Rattle.blocks.specs.Blocks.{blockCount, blockResult}
+use Rattle.blocks.specs.Checking.{blockOf, blockUnitsOf}
+use Rattle.blocks.specs.Inner.{Begun, Passed, Decoded, Amounts, unitsAt, UnitsRead, UnitsTold, BlockTold, unitsTaken, blockAfter, Taking}
+use Rattle.blocks.proofs.Units.{amounts-passed}
+
+-- the columns that were read are looked at as the units themselves
+module _ {s : List ℕ} {p : ℤ} {class taken : List ℕ} {n0 down up : List ℤ} (d : Decoded s p class taken n0 down up) where
+  start-count : length n0 ≡ blockCount s
+  start-count = ap length (d .starts) ∙ column-length _ (blockCount s)
+
+  entry : (i : ℕ) → i < blockCount s → faultsOf (at n0 i) (marginsAt down up i) ≡ faultsOf (unitN0 (unitIn s i)) (marginsOf (unitIn s i))
+  entry i l =
+      rw (
+        d .starts,
+        d .downs,
+        d .ups,
+        column-at (λ k. unitN0 (unitIn s k)) (blockCount s) i (pos 0) l,
+        column-at (λ k. marginsOf (unitIn s k) .«step_down») (blockCount s) i (pos 0) l,
+        column-at (λ k. marginsOf (unitIn s k) .«step_up») (blockCount s) i (pos 0) l,
+      )
+
+  pub looked : amountsPass n0 down up ≡ true → (i : ℕ) → i < blockCount s → Amounts s i
+  looked e i l = sym (entry i l) ∙ amounts-all n0 down up e i (omega (arith, start-count))
+
+  pub unlooked : ((i : ℕ) → i < blockCount s → Amounts s i) → amountsPass n0 down up ≡ true
+  unlooked all = amounts-only n0 down up (λ i l. entry i (omega (arith, start-count)) ∙ all i (omega (arith, start-count)))
+
+-- units read with a look at all: they pass, or one of them does not
+pub record UnitsPassed (s : List ℕ) (run limit : ℕ) (r : Reading) (class taken : List ℕ) (n0 down up : List ℤ) : Type 0 where
+  pub decoded : r .whole ≡ true → Decoded s (r .p .0) class taken n0 down up
+  pub ends : r .whole ≡ true → unitsAt s run limit ≡ is (r .end)
+  pub fails : r .whole ≡ false → (end : ℕ) → unitsAt s run limit ≡ is end → ⊥
+
+module _ {s : List ℕ} {run limit : ℕ} {r : Reading} {class taken : List ℕ} {n0 down up : List ℤ} (b : Begun s) (u : UnitsRead s run limit r class taken n0 down up) where
+  -- the reading was broken off, or came to its end and all pass, or not
+  pub pass-broken : {q : Reading} → r .whole ≡ false → q .whole ≡ false → UnitsPassed s run limit q class taken n0 down up
+  pass-broken w e =
+      record { decoded = λ t. absurd (false≢true (sym e ∙ t)); ends = λ t. absurd (false≢true (sym e ∙ t)); fails = λ _. u .fails w }
+
+  pub pass-all : r .whole ≡ true → amountsPass n0 down up ≡ true → UnitsPassed s run limit r class taken n0 down up
+  pass-all w e =
+      record { decoded = u .decoded; ends = λ _. u .ends w (looked (u .decoded w) e); fails = λ f. absurd (false≢true (sym f ∙ w)) }
+
+  pub pass-not : {q : Reading} → r .whole ≡ true → amountsPass n0 down up ≡ false → q .whole ≡ false → UnitsPassed s run limit q class taken n0 down up
+  pass-not w e f =
+      record {
+        decoded = λ t. absurd (false≢true (sym f ∙ t));
+        ends = λ t. absurd (false≢true (sym f ∙ t));
+        fails = λ _ end k. absurd (false≢true (sym e ∙ unlooked (u .decoded w) (amounts-passed s run limit b k)));
+      }
+
+module _ {s : List ℕ} {run limit : ℕ} {r : Reading} {class taken : List ℕ} {n0 down up : List ℤ} (u : UnitsPassed s run limit r class taken n0 down up) where
+  pub told-end : {q : Units} → r .whole ≡ true → answer (q .end) ≡ is (r .end) → q .p ≡ r .p → UnitsTold s run limit q class taken n0 down up
+  told-end w e p = record { replied = e ∙ sym (u .ends w); decoded = λ end _. rw p (u .decoded w) }
+
+  pub told-refusal : {q : Units} → r .whole ≡ false → answer (q .end) ≡ unitsAt s run limit → UnitsTold s run limit q class taken n0 down up
+  told-refusal w e = record { replied = e; decoded = λ end k. absurd (u .fails w end (sym e ∙ k)) }
+
+-- a block by its units
+module _ (s : List ℕ) (group : GroupRecord) (run limit : ℕ) (b : Begun s) (g : group ≡ groupAt s 0) where
+  same-count : unitsOf s groupLength 0 run limit (group .count) ≡ unitsAt s run limit
+  same-count = ap (λ (x : GroupRecord). unitsOf s groupLength 0 run limit (x .count)) g
+
+  module _ {r : Units} {class taken : List ℕ} {n0 down up : List ℤ} (u : UnitsTold s run limit r class taken n0 down up) where
+    pub block-refused : {q : Told} {f : Refusal} → answer (r .end) ≡ refusal f → q .block ≡ B.Refused f → BlockTold s group run limit q class taken n0 down up
+    unfolding next
+    block-refused e k =
+        record {
+          replied = rw (k, same-count ∙ sym (u .replied) ∙ e);
+          decoded = λ block. rw k (λ h. never h);
+          passed = λ block. rw k (λ h. never h);
+        }
+
+    pub block-passed : {q : Told} {end : ℕ} → answer (r .end) ≡ is end → q .block ≡ B.Is (blockOf group end) → q .p ≡ r .p → BlockTold s group run limit q class taken n0 down up
+    unfolding next
+    block-passed {end = end} e k p =
+        record {
+          replied = rw (k, same-count ∙ sym (u .replied) ∙ e);
+          decoded = λ block _. rw p (u .decoded end e);
+          passed = λ block _. record { run = run; limit = limit; end = end; long = b .long; few = b .few; units = sym (u .replied) ∙ e };
+        }
+
+-- and then 12, or the result
+module _ (s : List ℕ) (group : GroupRecord) (run limit : ℕ) (entry : List ℕ) where
+  pub taking-refused : {f : Refusal} → refusal f ≡ blockUnitsOf s group run limit → Taking s group run limit entry (B.Refused f) entry
+  unfolding unitsTaken next blockAfter
+  taking-refused e = record { replied = rw (← e); room = rw (← e) }
+
+  module _ {block : Block} (e : is block ≡ blockUnitsOf s group run limit) where
+    pub taking-small : {f : Refusal} → refusal {A = Block} f ≡ refused 12 0 → leb (block .written) (length entry) ≡ false → Taking s group run limit entry (B.Refused f) entry
+    unfolding unitsTaken next need blockAfter
+    taking-small h t = record { replied = h ∙ rw (← e, t); room = rw (← e, t) }
+
+    pub taking-done : {exit : List ℕ} → leb (block .written) (length entry) ≡ true → exit ≡ laidAt entry 0 (blockResult s) → Taking s group run limit entry (B.Is block) exit
+    unfolding unitsTaken next need blockAfter
+    taking-done t h = record { replied = rw (← e, t); room = h ∙ rw (← e, t) }
+
+    -- a block's result is as long as its count says
+    pub taken-long : group ≡ groupAt s 0 → block .written ≡ resultLength (blockCount s)
+    taken-long g =
+        let a = next-is _ _ (sym e) in
+        let v : block ≡ blockOf group (a .0) = cc (a .1 .1) in
+        rw (v, g)
+
+  pub took-long : {block : Block} → is block ≡ unitsTaken s group run limit (length entry) → group ≡ groupAt s 0 → block .written ≡ resultLength (blockCount s)
+  unfolding unitsTaken
+  took-long {block} e g =
+      let a = next-is _ _ (sym e) in
+      let n = need-is _ _ _ _ (a .1 .1) in
+      let same : block ≡ a .0 = cc (n .1) in
+      rw same (taken-long (sym (a .1 .0)) g)

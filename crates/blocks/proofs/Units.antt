@@ -1,0 +1,187 @@
+-- A loop over the units of a block: the columns are filled up to the unit here, and p is the sum of PC up to it.
+use Prim.Native.Nat.{ℕ, _+_, _*_, _≤_, _<_}
+use mathlib.Core.Path.{_≡_, refl, sym, ap, _∙_}
+use mathlib.Core.Bool.{Bool, true, false, false≢true}
+use mathlib.Core.List.{List}
+use native.Mathlib.Omega.{arith}
+use native.Mathlib.Numerals.{add-one}
+use lib.IntN.{ℤ, _+ℤ_}
+use lib.ListN.{length, set}
+use mir.Syntax.{w32}
+use mir.Val.{SFits, toZ, ofZ, boolByte}
+use mir.ValLaws.{toZ-ofZ}
+use Rattle.numbers.specs.Range.{Within}
+use Rattle.numbers.specs.Column.{column}
+use Rattle.numbers.specs.Sum.{sumZ, bit}
+use Rattle.numbers.proofs.Integers.{zarith, plus}
+use Rattle.numbers.proofs.Sums.{sumZ-column}
+use Rattle.terms.specs.Checks.{mostUnits}
+use Rattle.terms.specs.Reply.{Reply, is, refused}
+use Rattle.terms.specs.declared.refusal.Checked.the-variants.{Fine}
+use Rattle.terms.proofs.Replies.{never}
+use Rattle.terms.proofs.FirstRefused as reading
+use Rattle.terms.proofs.FirstRefused.{Left}
+use Rattle.group.proofs.Amounts.{faults-none, none-faulty}
+use Rattle.records.specs.declared.unit.UnitRecord.{UnitRecord}
+use Rattle.records.specs.Layouts.{groupLength, lengthOf, marginsOf, unitAt}
+use Rattle.records.specs.Reading.{unitEnd, placeFrom, unitPlace, unitIn, unitOf, unitFaults}
+use Rattle.records.specs.Decoding.{unitN0, unitImplicit, pcIn}
+use Rattle.records.specs.Inner.{isWhole, marksPass}
+use Rattle.records.proofs.Accepted.{Sound, unit-in, unit-whole}
+use Rattle.records.proofs.Marks.{Marked, marks-enough, unit-read}
+use Rattle.records.proofs.Turns.{unitsAfter, units-steps}
+use Rattle.blocks.specs.Blocks.{blockCount}
+use Rattle.blocks.specs.declared.decode.Reading.{Reading}
+use Rattle.blocks.specs.Inner.{Begun, Passed, UnitRoom, Decoded, Amounts, unitsAt, UnitsRead}
+use Rattle.blocks.proofs.Filling.{Filled, fill-none, fill-more, fill-all}
+
+-- the unit of an index passed its checks, and lies whole in the block
+module _ {s : List ℕ} (b : Passed s) where
+  pub unit-sound : (i : ℕ) → i < blockCount s → Sound (unitIn s i)
+  unit-sound = unit-in s (b .run) (b .limit) (blockCount s) (b .long) (b .units)
+
+  pub unit-there : (i : ℕ) → i < blockCount s → unitEnd s (unitPlace s i) ≤ length s
+  unit-there = unit-whole s (b .run) (b .limit) (blockCount s) (b .long) (b .units)
+
+-- a mark is the number that it adds to a reason
+pub mark : (b : Bool) → boolByte b ≡ bit b
+mark true = refl
+mark false = refl
+
+-- a quantity in its range is what its bits say
+pub back : (z : ℤ) → Within 1000000 z → toZ w32 (ofZ w32 z) ≡ z
+back z h = toZ-ofZ w32 z (omega zarith)
+
+-- a sum of the first quantities: what its bits say, and that with one more it fits
+pub record Added (f : ℕ → ℤ) (i p : ℕ) : Type 0 where
+  pub total : p ≡ ofZ w32 (sumZ (column i f))
+  pub small : Within (i * 1000000) (sumZ (column i f))
+
+module _ {f : ℕ → ℤ} {i p : ℕ} (a : Added f i p) (few : i ≤ mostUnits) where
+  pub added-back : toZ w32 p ≡ sumZ (column i f)
+  added-back = rw (a .total) (toZ-ofZ w32 (sumZ (column i f)) (omega (zarith, a .small)))
+
+  pub added-fits : (z : ℤ) → Within 1000000 z → i < mostUnits → SFits w32 (sumZ (column i f) +ℤ z)
+  added-fits z h l = omega (zarith, a .small, plus (sumZ (column i f)) z)
+
+  pub added-more : {q : ℕ} {z : ℤ} → z ≡ f i → Within 1000000 z → q ≡ ofZ w32 (sumZ (column i f) +ℤ z) → Added f (i + 1) q
+  added-more {q} {z} e h eq =
+      let n : sumZ (column (i + 1) f) ≡ sumZ (column i f) +ℤ z = rw (add-one i, e) (sumZ-column _ i) in
+      record { total = eq ∙ rw n; small = rw n (omega (zarith, a .small, plus (sumZ (column i f)) z)) }
+
+-- a block whose units pass: no nomination and no margins of theirs fail
+pub amounts-passed : (s : List ℕ) (run limit : ℕ) → Begun s → {end : ℕ} → unitsAt s run limit ≡ is end → (i : ℕ) → i < blockCount s → Amounts s i
+amounts-passed s run limit b e i l =
+    let u = unit-in s run limit (blockCount s) (b .long) e i l in
+    none-faulty _ _ (u .n0) (u .step-down) (u .step-up) (u .ordered)
+
+module _ (s : List ℕ) (run limit : ℕ) (class₀ taken₀ : List ℕ) (n0₀ down₀ up₀ : List ℤ) where
+  abbrev count : ℕ
+  count = blockCount s
+
+  -- the columns are filled up to unit i, which begins here; where no nomination and no margins failed so far, the units left are all that is to be read
+  pub record Going (class taken : List ℕ) (n0 down up : List ℤ) (here floor p i : ℕ) : Type 0 where
+    pub begun : Begun s
+    pub within : i ≤ count
+    pub place : here ≡ unitPlace s i
+    pub left : ((j : ℕ) → j < i → Amounts s j) → Left (unitsAfter s run limit) (unitsAt s run limit) count i (here, floor)
+    pub sold : Added (λ (k : ℕ). unitIn s k .pc .0) i p
+    pub classes : Filled (λ (k : ℕ). unitIn s k .class) count i class₀ class
+    pub marks : Filled (λ (k : ℕ). bit (unitImplicit (unitIn s k))) count i taken₀ taken
+    pub starts : Filled (λ (k : ℕ). unitN0 (unitIn s k)) count i n0₀ n0
+    pub downs : Filled (λ (k : ℕ). marginsOf (unitIn s k) .«step_down») count i down₀ down
+    pub ups : Filled (λ (k : ℕ). marginsOf (unitIn s k) .«step_up») count i up₀ up
+
+  pub start : Begun s → UnitRoom count class₀ taken₀ n0₀ down₀ up₀ → Going class₀ taken₀ n0₀ down₀ up₀ groupLength 0 0 0
+  unfolding sumZ column placeFrom
+  start b r =
+      record {
+        begun = b;
+        within = omega arith;
+        place = refl;
+        left = λ all. reading.start (units-steps s run limit) count (groupLength, 0);
+        sold = record { total = refl; small = omega zarith };
+        classes = fill-none _ _ _ (r .classes);
+        marks = fill-none _ _ _ (r .marks);
+        starts = fill-none _ _ _ (r .starts);
+        downs = fill-none _ _ _ (r .downs);
+        ups = fill-none _ _ _ (r .ups);
+      }
+
+  module _ {class taken : List ℕ} {n0 down up : List ℤ} {here floor p i : ℕ} (g : Going class taken n0 down up here floor p i) where
+    pub upto : i ≤ mostUnits
+    upto = omega (arith, g .within, g .begun .few)
+
+    pub below : i < length n0 → i < count
+    below h = omega (arith, g .starts .long)
+
+    module _ (l : i < count) where
+      -- a unit here that is not whole, or whose marks do not pass, is refused: so the units do not pass
+      pub stopped : ((u : UnitRecord) → unitOf s here floor run limit ≡ is u → ⊥) → (end : ℕ) → unitsAt s run limit ≡ is end → ⊥
+      stopped unread end e =
+          let all = amounts-passed s run limit (g .begun) e in
+          go (g .left (λ j k. all j (omega arith))) (unitOf s here floor run limit) refl
+        where
+          go : Left (unitsAfter s run limit) (unitsAt s run limit) count i (here, floor) → (r : Reply UnitRecord) → unitOf s here floor run limit ≡ r → ⊥
+          go left (is u) q = unread u q
+          go left (refused n k) q = never (reading.stop (units-steps s run limit) count i left l q ∙ e)
+
+      -- the values of the unit of index i are stored
+      pub turn : {u : UnitRecord} → u ≡ unitIn s i → Marked u → isWhole s here ≡ true → marksPass u floor run limit ≡ true
+          → {k m q h f : ℕ} {z x y : ℤ}
+          → k ≡ u .class → m ≡ bit (unitImplicit u) → z ≡ unitN0 u → x ≡ marginsOf u .«step_down» → y ≡ marginsOf u .«step_up»
+          → h ≡ here + lengthOf u → f ≡ u .number + 1 → q ≡ ofZ w32 (sumZ (pcIn s i) +ℤ u .pc .0)
+          → Going (set class i k) (set taken i m) (set n0 i z) (set down i x) (set up i y) h f q (i + 1)
+      unfolding placeFrom
+      turn {u} v w there passes {h = h} {f = f} ek em ez ex ey eh ef eq =
+          record {
+            begun = g .begun;
+            within = omega arith;
+            place = eh ∙ ap (λ (x : UnitRecord). here + lengthOf x) is-here ∙ ap (unitEnd s) (g .place) ∙ ap (placeFrom s groupLength) (sym (add-one i));
+            left = onward;
+            sold = added-more (g .sold) upto (rw v) (w .pc) eq;
+            classes = fill-more _ _ _ i class _ l (ek ∙ rw v) (g .classes);
+            marks = fill-more _ _ _ i taken _ l (em ∙ rw v) (g .marks);
+            starts = fill-more _ _ _ i n0 _ l (ez ∙ rw v) (g .starts);
+            downs = fill-more _ _ _ i down _ l (ex ∙ rw v) (g .downs);
+            ups = fill-more _ _ _ i up _ l (ey ∙ rw v) (g .ups);
+          }
+        where
+          is-here : u ≡ unitAt s here
+          is-here = v ∙ ap (unitAt s) (sym (g .place))
+
+          onward : ((j : ℕ) → j < i + 1 → Amounts s j) → Left (unitsAfter s run limit) (unitsAt s run limit) count (i + 1) (h, f)
+          onward all =
+              let a = faults-none _ _ (all i (omega arith)) in
+              let fine : unitFaults (unitAt s here) floor run limit ≡ Fine =
+              rw (← is-here) (marks-enough u floor run limit passes (rw v (a .0)) (rw v (a .1 .0)) (rw v (a .1 .1 .0)) (rw v (a .1 .1 .1))) in
+              let next = reading.turn (units-steps s run limit) count i (g .left (λ j k. all j (omega arith))) l (unit-read s here floor run limit there fine) in
+              rw (eh ∙ ap (λ (x : UnitRecord). here + lengthOf x) is-here, ef ∙ ap (λ (x : UnitRecord). x .number + 1) is-here) next
+
+    pub end : count ≤ i → Decoded s (toZ w32 p) class taken n0 down up
+    end l =
+        let h = g .within in
+        let n : i ≡ count = omega arith in
+        record {
+          sold = rw (added-back (g .sold) upto, n);
+          classes = fill-all _ _ _ i class h l (g .classes);
+          marks = fill-all _ _ _ i taken h l (g .marks);
+          starts = fill-all _ _ _ i n0 h l (g .starts);
+          downs = fill-all _ _ _ i down h l (g .downs);
+          ups = fill-all _ _ _ i up h l (g .ups);
+        }
+
+    pub ended : count ≤ i → ((j : ℕ) → j < count → Amounts s j) → unitsAt s run limit ≡ is here
+    ended l all =
+        let h = g .within in
+        sym (reading.end (units-steps s run limit) count i (g .left (λ j k. all j (omega arith))) l)
+
+-- a reading that was broken off, and one that came to its end
+module _ (s : List ℕ) (run limit : ℕ) {r : Reading} {class taken : List ℕ} {n0 down up : List ℤ} where
+  pub broken : r .whole ≡ false → ((end : ℕ) → unitsAt s run limit ≡ is end → ⊥) → UnitsRead s run limit r class taken n0 down up
+  broken w none =
+      record { decoded = λ t. absurd (false≢true (sym w ∙ t)); ends = λ t all. absurd (false≢true (sym w ∙ t)); fails = λ _. none }
+
+  pub came : r .whole ≡ true → Decoded s (r .p .0) class taken n0 down up → (((i : ℕ) → i < blockCount s → Amounts s i) → unitsAt s run limit ≡ is (r .end))
+      → UnitsRead s run limit r class taken n0 down up
+  came w d e = record { decoded = λ _. d; ends = λ _. e; fails = λ f. absurd (false≢true (sym f ∙ w)) }

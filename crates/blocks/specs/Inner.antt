@@ -1,0 +1,137 @@
+-- What inner functions ask of each other: no promise rests on it.
+use Prim.Native.Nat.{ℕ, _+_, _≤_, _<_}
+use mathlib.Core.Path.{_≡_}
+use mathlib.Core.Bool.{true, false}
+use mathlib.Core.List.{List}
+use lib.Dec.{leb}
+use lib.IntN.{ℤ}
+use lib.ListN.{length, getD}
+use Rattle.numbers.specs.Bytes.{laidAt}
+use Rattle.numbers.specs.Sum.{sumZ}
+use Rattle.terms.specs.Reply.{Reply, is, refused, need, next}
+use Rattle.terms.specs.Refusals.{answer}
+use Rattle.terms.specs.Checks.{mostUnits}
+use Rattle.group.specs.Group.{position}
+use Rattle.group.specs.Inner.{CutOff, faultsOf}
+use Rattle.group.specs.declared.judge.Cut.{Cut}
+use Rattle.records.specs.declared.group.GroupRecord.{GroupRecord}
+use Rattle.records.specs.Layouts.{groupLength, unitResultLength, unitResultBytes, marginsOf}
+use Rattle.records.specs.Reading.{unitEnd, unitPlace, unitIn, unitsOf}
+use Rattle.records.specs.Decoding.{unitN0, classesIn, takenIn, n0In, pcIn, stepDownIn, stepUpIn}
+use Rattle.writers.specs.Results.{resultFrom, resultLength}
+use Rattle.writers.specs.Runs.{run}
+use Rattle.blocks.specs.declared.check.Block.{Block}
+use Rattle.blocks.specs.declared.check.BlockAnswer.{BlockAnswer}
+use Rattle.blocks.specs.declared.decode.Reading.{Reading}
+use Rattle.blocks.specs.declared.decode.Units.{Units}
+use Rattle.blocks.specs.declared.check.Told.{Told}
+use Rattle.blocks.specs.Checking.{blockReply, blockUnitsOf}
+use Rattle.blocks.specs.Blocks.{blockCount, blockGroup, blockResult}
+
+-- a block whose group record is there, of at most 64 units
+pub record Begun (s : List ℕ) : Type 0 where
+  pub long : groupLength ≤ length s
+  pub few : blockCount s ≤ mostUnits
+
+-- a block whose units passed at some run and limit
+pub record Passed (s : List ℕ) : Type 0 where
+  pub run : ℕ
+  pub limit : ℕ
+  pub end : ℕ
+  pub long : groupLength ≤ length s
+  pub few : blockCount s ≤ mostUnits
+  pub units : unitsOf s groupLength 0 run limit (blockCount s) ≡ is end
+
+-- columns of exactly so many entries
+pub record UnitRoom (count : ℕ) (class taken : List ℕ) (n0 down up : List ℤ) : Type 0 where
+  pub classes : length class ≡ count
+  pub marks : length taken ≡ count
+  pub starts : length n0 ≡ count
+  pub downs : length down ≡ count
+  pub ups : length up ≡ count
+
+-- they are those of a block's units, and p is its position
+pub record Decoded (s : List ℕ) (p : ℤ) (class taken : List ℕ) (n0 down up : List ℤ) : Type 0 where
+  pub sold : p ≡ sumZ (pcIn s (blockCount s))
+  pub classes : class ≡ classesIn s (blockCount s)
+  pub marks : taken ≡ takenIn s (blockCount s)
+  pub starts : n0 ≡ n0In s (blockCount s)
+  pub downs : down ≡ stepDownIn s (blockCount s)
+  pub ups : up ≡ stepUpIn s (blockCount s)
+
+-- nomination and margins of the unit of an index pass
+abbrev pub Amounts : List ℕ → ℕ → Type 0
+Amounts s i = faultsOf (unitN0 (unitIn s i)) (marginsOf (unitIn s i)) ≡ 0
+
+-- the units of a block, checked at a run minute and an age limit
+abbrev pub unitsAt : List ℕ → ℕ → ℕ → Reply ℕ
+unitsAt s run limit = unitsOf s groupLength 0 run limit (blockCount s)
+
+-- units read without a look at nominations and margins: where these pass too the block's units do; a reading that was broken off says that they do not
+pub record UnitsRead (s : List ℕ) (run limit : ℕ) (r : Reading) (class taken : List ℕ) (n0 down up : List ℤ) : Type 0 where
+  pub decoded : r .whole ≡ true → Decoded s (r .p .0) class taken n0 down up
+  pub ends : r .whole ≡ true → ((i : ℕ) → i < blockCount s → Amounts s i) → unitsAt s run limit ≡ is (r .end)
+  pub fails : r .whole ≡ false → (end : ℕ) → unitsAt s run limit ≡ is end → ⊥
+
+-- the units of a block, and their columns where they pass
+pub record UnitsTold (s : List ℕ) (run limit : ℕ) (r : Units) (class taken : List ℕ) (n0 down up : List ℤ) : Type 0 where
+  pub replied : answer (r .end) ≡ unitsAt s run limit
+  pub decoded : (end : ℕ) → answer (r .end) ≡ is end → Decoded s (r .p .0) class taken n0 down up
+
+-- the same of a block
+pub record BlockTold (s : List ℕ) (group : GroupRecord) (run limit : ℕ) (r : Told) (class taken : List ℕ) (n0 down up : List ℤ) : Type 0 where
+  pub replied : blockReply (r .block) ≡ blockUnitsOf s group run limit
+  pub decoded : (block : Block) → blockReply (r .block) ≡ is block → Decoded s (r .p .0) class taken n0 down up
+  pub passed : (block : Block) → blockReply (r .block) ≡ is block → Passed s
+
+-- a block's units, then 12, and its result in the room
+unfoldable pub unitsTaken : List ℕ → GroupRecord → ℕ → ℕ → ℕ → Reply Block
+unitsTaken s group run limit room =
+    next (blockUnitsOf s group run limit) λ block.
+    need (leb (block .written) room) 12 0
+    (is block)
+
+unfoldable pub blockAfter : Reply Block → List ℕ → List ℕ → List ℕ
+blockAfter (is block) bytes room = laidAt room 0 bytes
+blockAfter (refused number place) bytes room = room
+
+pub record Taking (s : List ℕ) (group : GroupRecord) (run limit : ℕ) (entry : List ℕ) (r : BlockAnswer) (exit : List ℕ) : Type 0 where
+  pub replied : blockReply r ≡ unitsTaken s group run limit (length entry)
+  pub room : exit ≡ blockAfter (unitsTaken s group run limit (length entry)) (blockResult s) entry
+
+-- a block after step 1, with what each unit loses in step 2, and room for its result
+pub record Cutting (s : List ℕ) (p : ℤ) (cut : Cut) (taken : List ℕ) (n0 x1 : List ℤ) (losses : List ℕ) (down up : List ℤ) (room : List ℕ) : Type 0 where
+  pub passed : Passed s
+  pub sold : p ≡ position (blockGroup s)
+  pub marks : taken ≡ takenIn s (blockCount s)
+  pub starts : n0 ≡ blockGroup s .n0
+  pub downs : down ≡ blockGroup s .stepDown
+  pub ups : up ≡ blockGroup s .stepUp
+  pub off : CutOff (position (blockGroup s)) (blockGroup s .n0) (blockGroup s .stepDown) (blockGroup s .stepUp) (blockGroup s .class) cut x1 losses
+  pub enough : resultLength (blockCount s) ≤ length room
+
+-- columns of one length, of which unit i has an entry, its record in the block and room for its result
+pub record UnitLaying (s : List ℕ) (here : ℕ) (why : List ℕ) (n0 x1 x2 x3 : List ℤ) (i : ℕ) (room : List ℕ) (to : ℕ) : Type 0 where
+  pub bytes : unitEnd s here ≤ length s
+  pub below : i < length n0
+  pub whys : length why ≡ length n0
+  pub firsts : length x1 ≡ length n0
+  pub seconds : length x2 ≡ length n0
+  pub thirds : length x3 ≡ length n0
+  pub byte : getD why i 0 < 256
+  pub enough : to + unitResultLength ≤ length room
+
+-- the same of every unit, of at most 64
+pub record Laying (s : List ℕ) (why : List ℕ) (n0 x1 x2 x3 : List ℤ) (room : List ℕ) : Type 0 where
+  pub few : length n0 ≤ mostUnits
+  pub bytes : (i : ℕ) → i < length n0 → unitEnd s (unitPlace s i) ≤ length s
+  pub whys : length why ≡ length n0
+  pub firsts : length x1 ≡ length n0
+  pub seconds : length x2 ≡ length n0
+  pub thirds : length x3 ≡ length n0
+  pub byte : (i : ℕ) → getD why i 0 < 256
+  pub enough : resultLength (length n0) ≤ length room
+
+-- the results of the units one after another
+unfoldable pub laidUnits : List ℕ → List ℕ → List ℤ → List ℤ → List ℤ → List ℤ → List ℕ
+laidUnits s why n0 x1 x2 x3 = run (λ (i : ℕ). unitResultBytes (resultFrom (unitIn s i .number) why n0 x1 x2 x3 i)) (length n0)

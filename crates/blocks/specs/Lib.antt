@@ -1,0 +1,4 @@
+-- A block: its units, and its result.
+pub mod Checking
+pub mod Blocks
+pub mod Inner

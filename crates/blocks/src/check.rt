@@ -1,0 +1,119 @@
+// The units of a block are checked, and read into columns: the first refusal, or what would be used and written.
+ghost use mathlib.Core.Path.{_≡_};
+ghost use Rattle.records.specs.Layouts.{groupAt};
+ghost use Rattle.blocks.specs.Blocks.{blockCount};
+ghost use Rattle.blocks.specs.Checking.{blockOf, blockReply, blockRefusal, blockUnitsOf};
+ghost use Rattle.blocks.specs.Inner.{Begun, UnitRoom, BlockTold};
+use crate::decode::units_into;
+use records::group::GroupRecord;
+use records::group_result::GroupResult;
+use records::key::Key;
+use records::unit_result::UnitResult;
+use terms::quantity::Position;
+use terms::refusal::Answer;
+use terms::refusal::Refusal;
+use terms::refusal::no_refusal;
+
+// A block that passed: its key and how many units it has, the bytes it takes up and those of its result.
+pub struct Block {
+    pub key: Key,
+    pub count: u8,
+    pub used: usize,
+    pub written: usize,
+}
+
+impl Block {
+    pub fn of(group: GroupRecord, used: usize) -> Block
+        ensures { λ r. ⌜ r ≡ blockOf group used ⌝ }
+    {
+        Block {
+            key: Key {
+                brp: group.brp,
+                zone: group.zone,
+                quarter: group.quarter,
+            },
+            count: group.count,
+            used,
+            written: GroupResult::LEN + UnitResult::LEN * (group.count as usize),
+        }
+    }
+}
+
+pub enum BlockAnswer {
+    Is(Block),
+    Refused(Refusal),
+}
+
+impl BlockAnswer {
+    // The refusal of an answer that is one: `let .. else` does not bind it.
+    pub fn refusal(self) -> Refusal
+        ensures { λ r. ⌜ r ≡ blockRefusal self ⌝ }
+    {
+        match self {
+            BlockAnswer::Is(_) => no_refusal(),
+            BlockAnswer::Refused(r) => r,
+        }
+    }
+}
+
+// A block whose group record passed: P, and the block or the first refusal.
+pub struct Told {
+    pub p: Position,
+    pub block: BlockAnswer,
+}
+
+// The units of a block, checked and read into lent columns. What is still to refuse once they pass stands here, after them: 12 comes last.
+pub fn block_units(
+    s: &[u8],
+    group: GroupRecord,
+    run: u32,
+    limit: u16,
+    class: &mut [u8],
+    taken: &mut [u32],
+    n0: &mut [i32],
+    step_down: &mut [i32],
+    step_up: &mut [i32],
+) -> Told
+    requires { ⌜ Begun (now s) × (group ≡ groupAt (now s) 0) ⌝ }
+    requires { ⌜ UnitRoom (blockCount (now s)) (now class) (now taken) (now n0) (now «step_down») (now «step_up») ⌝ }
+    ensures { λ r. ⌜ BlockTold (now (s .entry)) group run limit r (now (class .exit)) (now (taken .exit)) (now (n0 .exit)) (now («step_down» .exit)) (now («step_up» .exit)) ⌝ }
+{
+    let units = units_into(s, run, limit, class, taken, n0, step_down, step_up);
+    let p = units.p;
+    let u = units.end;
+    let Answer::Is(end) = u else {
+        return Told {
+            p,
+            block: BlockAnswer::Refused(u.refusal()),
+        };
+    };
+    Told {
+        p,
+        block: BlockAnswer::Is(Block::of(group, end)),
+    }
+}
+
+// The units of a block, checked, with columns that are lent to that alone.
+pub fn units_checked(s: &[u8], group: GroupRecord, run: u32, limit: u16) -> BlockAnswer
+    requires { ⌜ Begun (now s) × (group ≡ groupAt (now s) 0) ⌝ }
+    ensures { λ r. ⌜ blockReply r ≡ blockUnitsOf (now (s .entry)) group run limit ⌝ }
+{
+    let n = group.count as usize;
+    let mut class = [0u8; 64];
+    let mut taken = [0u32; 64];
+    let mut n0 = [0i32; 64];
+    let mut step_down = [0i32; 64];
+    let mut step_up = [0i32; 64];
+    let told = block_units(
+        s,
+        group,
+        run,
+        limit,
+        &mut class[..n],
+        &mut taken[..n],
+        &mut n0[..n],
+        &mut step_down[..n],
+        &mut step_up[..n],
+    );
+    told.block
+}

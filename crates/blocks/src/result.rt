@@ -1,0 +1,183 @@
+// The units of a block are checked, then the room; then the block is judged and its result written.
+ghost use mathlib.Core.Path.{_≡_};
+ghost use Prim.Native.Nat.{_≤_};
+ghost use lib.ListN.{length};
+ghost use Rattle.numbers.specs.Bytes.{laidAt};
+ghost use Rattle.group.specs.Inner.{zeros};
+ghost use Rattle.records.specs.Layouts.{groupAt};
+ghost use Rattle.writers.specs.Results.{resultLength};
+ghost use Rattle.blocks.specs.Blocks.{blockResult, blockCount};
+ghost use Rattle.blocks.specs.Inner.{Begun, Passed, UnitRoom, Decoded, Cutting, Taking};
+use crate::check::BlockAnswer;
+use crate::check::block_units;
+use crate::lay::lay_group_result;
+use crate::lay::lay_unit_results;
+use group::band::direction;
+use group::cut::take_off;
+use group::judge::Cut;
+use group::judge::cut_all;
+use group::judge::step3_all;
+use group::judge::summed;
+use records::group::GroupRecord;
+use terms::quantity::Position;
+use terms::refusal::Refusal;
+use terms::refusal::Why;
+
+// Steps 2 and 3, the reasons and the result of a block after step 1, by way of a lent column.
+fn write_rest(
+    s: &[u8],
+    p: Position,
+    cut: Cut,
+    room: &mut [u8],
+    why: &mut [u32],
+    n0: &[i32],
+    n1: &[i32],
+    losses: &[u32],
+    third: &mut [i32],
+    step_up: &[i32],
+    n2: &mut [i32],
+)
+    requires { ⌜ Cutting (now s) (p .0) cut (now why) (now n0) (now n1) (now losses) (now third) (now «step_up») (now room) × (length (now n2) ≡ length (now n0)) ⌝ }
+    ensures { λ _. ⌜ now (room .exit) ≡ laidAt (now (room .entry)) 0 (blockResult (now (s .entry))) ⌝ }
+{
+    take_off(direction(cut.e), n1, losses, n2);
+    let s3 = step3_all(n0, n1, n2, third, step_up, why);
+    lay_unit_results(room, s, why, n0, n1, n2, third);
+    lay_group_result(room, s, summed(p, cut, s3));
+}
+
+// The same with a column of its own, made here, when step 2 has worked out what each unit loses and needs no column of its own any more.
+fn write_cut(
+    s: &[u8],
+    p: Position,
+    cut: Cut,
+    room: &mut [u8],
+    why: &mut [u32],
+    n0: &[i32],
+    n1: &[i32],
+    losses: &[u32],
+    third: &mut [i32],
+    step_up: &[i32],
+)
+    requires { ⌜ Cutting (now s) (p .0) cut (now why) (now n0) (now n1) (now losses) (now third) (now «step_up») (now room) ⌝ }
+    ensures { λ _. ⌜ now (room .exit) ≡ laidAt (now (room .entry)) 0 (blockResult (now (s .entry))) ⌝ }
+{
+    let n = n0.len();
+    let mut n2 = [0i32; 64];
+    write_rest(
+        s,
+        p,
+        cut,
+        room,
+        why,
+        n0,
+        n1,
+        losses,
+        third,
+        step_up,
+        &mut n2[..n],
+    );
+}
+
+// Step 1 of a block that passed, and then the same, by way of the columns that were read and two that are lent.
+fn write_passed(
+    s: &[u8],
+    p: Position,
+    room: &mut [u8],
+    class: &[u8],
+    why: &mut [u32],
+    n0: &[i32],
+    n1: &mut [i32],
+    losses: &mut [u32],
+    step_down: &mut [i32],
+    step_up: &[i32],
+)
+    requires { ⌜ Passed (now s) × Decoded (now s) (p .0) (now class) (now why) (now n0) (now «step_down») (now «step_up») ⌝ }
+    requires { ⌜ (length (now n1) ≡ blockCount (now s)) × (now losses ≡ zeros (blockCount (now s))) ⌝ }
+    requires { ⌜ resultLength (blockCount (now s)) ≤ length (now room) ⌝ }
+    ensures { λ _. ⌜ now (room .exit) ≡ laidAt (now (room .entry)) 0 (blockResult (now (s .entry))) ⌝ }
+{
+    let cut = cut_all(p, n0, step_down, step_up, class, n1, losses);
+    write_cut(s, p, cut, room, why, n0, n1, losses, step_down, step_up);
+}
+
+// A block is checked, then the room; then it is judged and its result written, by way of lent columns.
+fn take_through(
+    s: &[u8],
+    group: GroupRecord,
+    run: u32,
+    limit: u16,
+    room: &mut [u8],
+    class: &mut [u8],
+    taken: &mut [u32],
+    n0: &mut [i32],
+    n1: &mut [i32],
+    losses: &mut [u32],
+    step_down: &mut [i32],
+    step_up: &mut [i32],
+) -> BlockAnswer
+    requires { ⌜ Begun (now s) × (group ≡ groupAt (now s) 0) ⌝ }
+    requires { ⌜ UnitRoom (blockCount (now s)) (now class) (now taken) (now n0) (now «step_down») (now «step_up») ⌝ }
+    requires { ⌜ (length (now n1) ≡ blockCount (now s)) × (now losses ≡ zeros (blockCount (now s))) ⌝ }
+    ensures { λ r. ⌜ Taking (now (s .entry)) group run limit (now (room .entry)) r (now (room .exit)) ⌝ }
+{
+    let told = block_units(s, group, run, limit, class, taken, n0, step_down, step_up);
+    let b = told.block;
+    let BlockAnswer::Is(block) = b else {
+        return BlockAnswer::Refused(b.refusal());
+    };
+    if room.len() < block.written {
+        return BlockAnswer::Refused(Refusal {
+            why: Why::Room,
+            place: 0,
+        });
+    }
+    write_passed(
+        s,
+        told.p,
+        room,
+        class,
+        taken,
+        n0,
+        n1,
+        losses,
+        step_down,
+        step_up,
+    );
+    BlockAnswer::Is(block)
+}
+
+// The units of a block whose group record passed, and then 12; its result is written at the front of the room. Its columns take 1,600 bytes of stack.
+pub fn take_units(
+    s: &[u8],
+    group: GroupRecord,
+    run: u32,
+    limit: u16,
+    room: &mut [u8],
+) -> BlockAnswer
+    requires { ⌜ Begun (now s) × (group ≡ groupAt (now s) 0) ⌝ }
+    ensures { λ r. ⌜ Taking (now (s .entry)) group run limit (now (room .entry)) r (now (room .exit)) ⌝ }
+{
+    let n = group.count as usize;
+    let mut class = [0u8; 64];
+    let mut taken = [0u32; 64];
+    let mut n0 = [0i32; 64];
+    let mut n1 = [0i32; 64];
+    let mut losses = [0u32; 64];
+    let mut step_down = [0i32; 64];
+    let mut step_up = [0i32; 64];
+    take_through(
+        s,
+        group,
+        run,
+        limit,
+        room,
+        &mut class[..n],
+        &mut taken[..n],
+        &mut n0[..n],
+        &mut n1[..n],
+        &mut losses[..n],
+        &mut step_down[..n],
+        &mut step_up[..n],
+    )
+}
