@@ -38,14 +38,17 @@ fn marks(u: UnitRecord, floor: u32) -> Checked
     if (u.number as u32) < floor {
         return Checked::Faulty(Fault::Number);
     }
-    let Checked::Fine = class(u.class) else {
-        return Checked::Faulty(Fault::Class);
+    let known = class(u.class);
+    let Checked::Fine = known else {
+        return known;
     };
-    let Checked::Fine = flag(u.coincide, Fault::Coincide) else {
-        return Checked::Faulty(Fault::Coincide);
+    let coincide = flag(u.coincide, Fault::Coincide);
+    let Checked::Fine = coincide else {
+        return coincide;
     };
-    let Checked::Fine = flag(u.nominated, Fault::Nominated) else {
-        return Checked::Faulty(Fault::Nominated);
+    let nominated = flag(u.nominated, Fault::Nominated);
+    let Checked::Fine = nominated else {
+        return nominated;
     };
     nomination(u.nominated, u.n)
 }

@@ -29,6 +29,12 @@ unfolding check
 fails true f g e = apart e
 fails false f g e = refl
 
+-- a field's answer that is a fault is that of all checks from it on
+pub ended : (t : Bool) (f : Fault) (rest : Checked) {r : Checked} {g : Fault} → r ≡ check t f Fine → r ≡ Faulty g → r ≡ check t f rest
+unfolding check
+ended true f rest e h = apart (sym e ∙ h)
+ended false f rest e h = e
+
 -- a quantity that the machine reads back from its bits, against the limits: below them, above them, and neither
 module _ {z : ℤ} (fits : SFits w32 z) where
   low : SFits w32 (negℤ (pos 1000000))
@@ -75,3 +81,6 @@ module _ {z : ℤ} {r : Checked} (back : toZ w32 (ofZ w32 z) ≡ z) (f : Fault) 
 
   pub out-of-range : {g : Fault} → r ≡ Faulty g → inRange z ≡ false
   out-of-range {g} h = fails (inRange z) f g (sym plain ∙ h)
+
+  pub ends : (rest : Checked) {g : Fault} → r ≡ Faulty g → r ≡ check (inRange z) f rest
+  ends rest h = ended (inRange z) f rest plain h

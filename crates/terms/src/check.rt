@@ -86,11 +86,13 @@ fn ordered(step_down: i32, step_up: i32) -> Checked
 fn margins(m: Margins) -> Checked
     ensures { λ r. ⌜ r ≡ marginChecks m ⌝ }
 {
-    let Checked::Fine = nomination(m.step_down, Fault::StepDown) else {
-        return Checked::Faulty(Fault::StepDown);
+    let down = nomination(m.step_down, Fault::StepDown);
+    let Checked::Fine = down else {
+        return down;
     };
-    let Checked::Fine = nomination(m.step_up, Fault::StepUp) else {
-        return Checked::Faulty(Fault::StepUp);
+    let up = nomination(m.step_up, Fault::StepUp);
+    let Checked::Fine = up else {
+        return up;
     };
     ordered(m.step_down, m.step_up)
 }
@@ -99,11 +101,13 @@ fn margins(m: Margins) -> Checked
 pub fn amounts(n: Nomination, pc: Position, m: Margins) -> Checked
     ensures { λ r. ⌜ r ≡ amountChecks (n .0) (pc .0) m ⌝ }
 {
-    let Checked::Fine = nomination(n.0, Fault::N) else {
-        return Checked::Faulty(Fault::N);
+    let of_n = nomination(n.0, Fault::N);
+    let Checked::Fine = of_n else {
+        return of_n;
     };
-    let Checked::Fine = position(pc.0) else {
-        return Checked::Faulty(Fault::Pc);
+    let of_pc = position(pc.0);
+    let Checked::Fine = of_pc else {
+        return of_pc;
     };
     margins(m)
 }

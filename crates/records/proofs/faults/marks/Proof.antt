@@ -1,8 +1,8 @@
--- 6 and 7 in turn: each return by the tests that passed before it and the one that failed.
+-- 6 and 7 in turn: each return by the tests that passed before it and the answer that is handed on.
 use Rattle.records.proofs.Checks.{check-past, check-out}
 use mathlib.Core.Path.{sym, _∙_}
 use borrow.Author.Tests.{le-leb, lt-leb, leb-true}
-use Rattle.terms.proofs.Passing.{passes, fails}
+use Rattle.terms.proofs.Passing.{passes, ended}
 use Rattle.records.specs.Reading.{markFaults}
 use borrow.Author.Needs.{needs}
 use Rattle.records.proofs.faults.marks.Statement.{statement}
@@ -29,8 +29,7 @@ unfolding markFaults
 returns-2 c =
     let test = c .before .before .before in
     let floor = le-leb _ _ (test .if1 .left) in
-    let q = fails _ _ _ (sym (c .before .before .class .ensures) ∙ c .enum-told2 .given .1) in
-    check-past _ _ _ floor (check-out _ _ _ q)
+    check-past _ _ _ floor (ended _ _ _ (c .before .before .class .ensures) (c .enum-told2 .given .1))
 
 flag-requires : tie.Need-flag-requires
 flag-requires c κs = search needs
@@ -48,8 +47,7 @@ returns-3 c =
     let test = f1 .before .before .before in
     let p1 = passes _ _ _ (sym (f1 .before .before .class .ensures) ∙ f1 .enum-told .given .1) .0 in
     let floor = le-leb _ _ (test .if1 .left) in
-    let q = fails _ _ _ (sym (c .before .before .flag .ensures) ∙ c .enum-told4 .given .1) in
-    check-past _ _ _ floor (check-past _ _ _ p1 (check-out _ _ _ q))
+    check-past _ _ _ floor (check-past _ _ _ p1 (ended _ _ _ (c .before .before .flag .ensures) (c .enum-told4 .given .1)))
 
 flag-requires-2 : tie.Need-flag-requires-2
 flag-requires-2 c κs = search needs
@@ -69,8 +67,7 @@ returns-4 c =
     let p2 = passes _ _ _ (sym (f2 .before .before .flag .ensures) ∙ f2 .enum-told3 .given .1) .0 in
     let p1 = passes _ _ _ (sym (f1 .before .before .class .ensures) ∙ f1 .enum-told .given .1) .0 in
     let floor = le-leb _ _ (test .if1 .left) in
-    let q = fails _ _ _ (sym (c .before .before .flag2 .ensures) ∙ c .enum-told6 .given .1) in
-    check-past _ _ _ floor (check-past _ _ _ p1 (check-past _ _ _ p2 (check-out _ _ _ q)))
+    check-past _ _ _ floor (check-past _ _ _ p1 (check-past _ _ _ p2 (ended _ _ _ (c .before .before .flag2 .ensures) (c .enum-told6 .given .1))))
 
 nomination-requires : tie.Need-nomination-requires
 nomination-requires c κs = leb-true _ 1 (passes _ _ _ (sym (c .before .before .flag2 .ensures) ∙ c .enum-told5 .given .1) .0)

@@ -6,7 +6,7 @@ use borrow.Author.Needs.{needs}
 use Rattle.terms.specs.Refusals.{check}
 use Rattle.terms.specs.Checks.{amountChecks}
 use Rattle.terms.specs.declared.refusal.Fault.the-variants as F
-use Rattle.terms.proofs.Passing.{in-range, out-of-range}
+use Rattle.terms.proofs.Passing.{in-range, ends}
 use Rattle.terms.proofs.check.amounts.Statement.{statement}
 use Rattle.terms.proofs.check.amounts.Tie as tie
 
@@ -25,7 +25,7 @@ returns c =
     let first = c .before .before in
     let x = first .before .before .args in
     let zn : toZ w32 (ofZ w32 (x .n .0)) ≡ x .n .0 = search needs in
-    rw (out-of-range zn F.N (first .nomination .ensures) (c .enum-told2 .given .1))
+    ends zn F.N (first .nomination .ensures) _ (c .enum-told2 .given .1)
 
 position-requires : tie.Need-position-requires
 position-requires c κs = search needs
@@ -45,10 +45,8 @@ returns-2 c =
     let x = first .before .before .args in
     let zn : toZ w32 (ofZ w32 (x .n .0)) ≡ x .n .0 = search needs in
     let zp : toZ w32 (ofZ w32 (x .pc .0)) ≡ x .pc .0 = search needs in
-    rw (
-      in-range zn F.N (first .nomination .ensures) (told .enum-told .given .1),
-      out-of-range zp F.Pc (second .position .ensures) (c .enum-told4 .given .1),
-    )
+    rw (in-range zn F.N (first .nomination .ensures) (told .enum-told .given .1))
+    (ends zp F.Pc (second .position .ensures) _ (c .enum-told4 .given .1))
 
 margins-requires : tie.Need-margins-requires
 margins-requires c κs = search needs

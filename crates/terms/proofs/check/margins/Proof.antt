@@ -6,7 +6,7 @@ use borrow.Author.Needs.{needs}
 use Rattle.terms.specs.Refusals.{check}
 use Rattle.terms.specs.Checks.{marginChecks}
 use Rattle.terms.specs.declared.refusal.Fault.the-variants as F
-use Rattle.terms.proofs.Passing.{in-range, out-of-range}
+use Rattle.terms.proofs.Passing.{in-range, ends}
 use Rattle.terms.proofs.check.margins.Statement.{statement}
 use Rattle.terms.proofs.check.margins.Tie as tie
 
@@ -25,7 +25,7 @@ returns c =
     let down = c .before .before in
     let m = down .before .before .args .m in
     let zd : toZ w32 (ofZ w32 (m .«step_down»)) ≡ m .«step_down» = search needs in
-    rw (out-of-range zd F.StepDown (down .nomination .ensures) (c .enum-told2 .given .1))
+    ends zd F.StepDown (down .nomination .ensures) _ (c .enum-told2 .given .1)
 
 nomination-requires-2 : tie.Need-nomination-requires-2
 nomination-requires-2 c κs = search needs
@@ -45,10 +45,8 @@ returns-2 c =
     let m = down .before .before .args .m in
     let zd : toZ w32 (ofZ w32 (m .«step_down»)) ≡ m .«step_down» = search needs in
     let zu : toZ w32 (ofZ w32 (m .«step_up»)) ≡ m .«step_up» = search needs in
-    rw (
-      in-range zd F.StepDown (down .nomination .ensures) (told .enum-told .given .1),
-      out-of-range zu F.StepUp (up .nomination2 .ensures) (c .enum-told4 .given .1),
-    )
+    rw (in-range zd F.StepDown (down .nomination .ensures) (told .enum-told .given .1))
+    (ends zu F.StepUp (up .nomination2 .ensures) _ (c .enum-told4 .given .1))
 
 ordered-requires : tie.Need-ordered-requires
 ordered-requires c κs = search needs
