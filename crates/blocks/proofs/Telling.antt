@@ -24,7 +24,7 @@ use Rattle.records.specs.Reading.{unitIn, unitsOf}
 use Rattle.records.specs.Decoding.{unitN0}
 use Rattle.writers.specs.Results.{resultLength}
 use Rattle.blocks.specs.declared.check.Block.{Block}
-use Rattle.blocks.specs.declared.check.Told.{Told}
+use Rattle.blocks.specs.declared.decode.Told.{Told}
 use Rattle.blocks.specs.declared.check.BlockAnswer.the-variants as B
 use Rattle.blocks.specs.declared.decode.Reading.{Reading}
 use Rattle.blocks.specs.declared.decode.Units.{Units}

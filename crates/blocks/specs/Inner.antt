@@ -24,7 +24,7 @@ use Rattle.blocks.specs.declared.check.Block.{Block}
 use Rattle.blocks.specs.declared.check.BlockAnswer.{BlockAnswer}
 use Rattle.blocks.specs.declared.decode.Reading.{Reading}
 use Rattle.blocks.specs.declared.decode.Units.{Units}
-use Rattle.blocks.specs.declared.check.Told.{Told}
+use Rattle.blocks.specs.declared.decode.Told.{Told}
 use Rattle.blocks.specs.Checking.{blockReply, blockUnitsOf}
 use Rattle.blocks.specs.Blocks.{blockCount, blockGroup, blockResult}
 

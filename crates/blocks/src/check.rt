@@ -1,16 +1,13 @@
-// The units of a block are checked, and read into columns: the first refusal, or what would be used and written.
+// The units of a block are checked: the first refusal, or what would be used and written.
 ghost use mathlib.Core.Path.{_≡_};
 ghost use Rattle.records.specs.Layouts.{groupAt};
-ghost use Rattle.blocks.specs.Blocks.{blockCount};
 ghost use Rattle.blocks.specs.Checking.{blockOf, blockReply, blockRefusal, blockUnitsOf};
-ghost use Rattle.blocks.specs.Inner.{Begun, UnitRoom, BlockTold};
-use crate::decode::units_into;
+ghost use Rattle.blocks.specs.Inner.{Begun};
+use crate::decode::block_units;
 use records::group::GroupRecord;
 use records::group_result::GroupResult;
 use records::key::Key;
 use records::unit_result::UnitResult;
-use terms::quantity::Position;
-use terms::refusal::Answer;
 use terms::refusal::Refusal;
 use terms::refusal::no_refusal;
 
@@ -53,43 +50,6 @@ impl BlockAnswer {
             BlockAnswer::Is(_) => no_refusal(),
             BlockAnswer::Refused(r) => r,
         }
-    }
-}
-
-// A block whose group record passed: P, and the block or the first refusal.
-pub struct Told {
-    pub p: Position,
-    pub block: BlockAnswer,
-}
-
-// The units of a block, checked and read into lent columns. What is still to refuse once they pass stands here, after them: 12 comes last.
-pub fn block_units(
-    s: &[u8],
-    group: GroupRecord,
-    run: u32,
-    limit: u16,
-    class: &mut [u8],
-    taken: &mut [u32],
-    n0: &mut [i32],
-    step_down: &mut [i32],
-    step_up: &mut [i32],
-) -> Told
-    requires { ⌜ Begun (now s) × (group ≡ groupAt (now s) 0) ⌝ }
-    requires { ⌜ UnitRoom (blockCount (now s)) (now class) (now taken) (now n0) (now «step_down») (now «step_up») ⌝ }
-    ensures { λ r. ⌜ BlockTold (now (s .entry)) group run limit r (now (class .exit)) (now (taken .exit)) (now (n0 .exit)) (now («step_down» .exit)) (now («step_up» .exit)) ⌝ }
-{
-    let units = units_into(s, run, limit, class, taken, n0, step_down, step_up);
-    let p = units.p;
-    let u = units.end;
-    let Answer::Is(end) = u else {
-        return Told {
-            p,
-            block: BlockAnswer::Refused(u.refusal()),
-        };
-    };
-    Told {
-        p,
-        block: BlockAnswer::Is(Block::of(group, end)),
     }
 }
 

@@ -2,8 +2,11 @@
 ghost use mathlib.Core.Path.{_≡_};
 ghost use mathlib.Core.Bool.{false};
 ghost use lib.IntN.{pos};
-ghost use Rattle.blocks.specs.Inner.{Begun, UnitRoom, UnitsRead, UnitsTold};
+ghost use Rattle.records.specs.Layouts.{groupAt};
+ghost use Rattle.blocks.specs.Inner.{Begun, UnitRoom, UnitsRead, UnitsTold, BlockTold};
 ghost use Rattle.blocks.specs.Blocks.{blockCount};
+use crate::check::Block;
+use crate::check::BlockAnswer;
 use group::check::amounts_pass;
 use records::faults::marks_pass;
 use records::group::GroupRecord;
@@ -83,13 +86,13 @@ fn read_into(
 }
 
 // The units of a block: P, and where they end, or the first refusal.
-pub struct Units {
-    pub p: Position,
-    pub end: Answer,
+struct Units {
+    p: Position,
+    end: Answer,
 }
 
 // The units of a block, read, and then a look at all nominations and margins. Which field is wrong is asked only once one is.
-pub fn units_into(
+fn units_into(
     s: &[u8],
     run: u32,
     limit: u16,
@@ -113,5 +116,42 @@ pub fn units_into(
     Units {
         p: Position(0),
         end: units_from(s, GroupRecord::LEN, n0.len(), run, limit),
+    }
+}
+
+// A block whose group record passed: P, and the block or the first refusal.
+pub struct Told {
+    pub p: Position,
+    pub block: BlockAnswer,
+}
+
+// The units of a block, checked and read into lent columns. What is still to refuse once they pass stands here, after them: 12 comes last.
+pub fn block_units(
+    s: &[u8],
+    group: GroupRecord,
+    run: u32,
+    limit: u16,
+    class: &mut [u8],
+    taken: &mut [u32],
+    n0: &mut [i32],
+    step_down: &mut [i32],
+    step_up: &mut [i32],
+) -> Told
+    requires { ⌜ Begun (now s) × (group ≡ groupAt (now s) 0) ⌝ }
+    requires { ⌜ UnitRoom (blockCount (now s)) (now class) (now taken) (now n0) (now «step_down») (now «step_up») ⌝ }
+    ensures { λ r. ⌜ BlockTold (now (s .entry)) group run limit r (now (class .exit)) (now (taken .exit)) (now (n0 .exit)) (now («step_down» .exit)) (now («step_up» .exit)) ⌝ }
+{
+    let units = units_into(s, run, limit, class, taken, n0, step_down, step_up);
+    let p = units.p;
+    let u = units.end;
+    let Answer::Is(end) = u else {
+        return Told {
+            p,
+            block: BlockAnswer::Refused(u.refusal()),
+        };
+    };
+    Told {
+        p,
+        block: BlockAnswer::Is(Block::of(group, end)),
     }
 }

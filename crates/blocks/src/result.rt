@@ -9,7 +9,7 @@ ghost use Rattle.writers.specs.Results.{resultLength};
 ghost use Rattle.blocks.specs.Blocks.{blockResult, blockCount};
 ghost use Rattle.blocks.specs.Inner.{Begun, Passed, UnitRoom, Decoded, Cutting, Taking};
 use crate::check::BlockAnswer;
-use crate::check::block_units;
+use crate::decode::block_units;
 use crate::lay::lay_group_result;
 use crate::lay::lay_unit_results;
 use group::band::direction;

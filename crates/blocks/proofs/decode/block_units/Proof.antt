@@ -4,8 +4,8 @@ use Rattle.terms.specs.Refusals.{answer}
 use Rattle.blocks.specs.declared.check.BlockAnswer.the-variants as B
 use Rattle.blocks.proofs.Telling.{block-refused, block-passed}
 use borrow.Author.Needs.{needs}
-use Rattle.blocks.proofs.check.block_units.Statement.{statement}
-use Rattle.blocks.proofs.check.block_units.Tie as tie
+use Rattle.blocks.proofs.decode.block_units.Statement.{statement}
+use Rattle.blocks.proofs.decode.block_units.Tie as tie
 
 -- where the units were read, and what stood before
 abbrev units : tie.After-p → tie.After-units-into
