@@ -2,8 +2,10 @@
 """The gate: rt's verdict on every listed crate, and then each test of tests/gate.
 
 Its very last line is "N passed, M failed", both counted; it exits with 0 only where nothing failed. Tests run two at a time, each
-with its output shown whole and in order. A line `# gate: alone` in a test says that it uses every core by itself, and
-`# gate: after NAME` that it uses what that test makes. target/seconds.tsv keeps the seconds of each part and of each crate's check.
+with its output shown whole and in order. A line `# gate: alone` in a test says that it uses every core by itself,
+`# gate: after NAME` that it uses what that test makes, and `# gate: beside` that it runs from the start beside everything else:
+it follows rt, whose proofs are all made once its standard input ends, and is shown last. target/seconds.tsv keeps the seconds of
+each part, from its start to its end and of a processor, and those of each crate's check.
 """
 
 import os
@@ -28,26 +30,29 @@ class Part:
         self.name, self.command = name, command
         self.alone = re.search(r"^# gate: alone$", text, re.M) is not None
         self.after = re.findall(r"^# gate: after (\S+)$", text, re.M)
-        self.said, self.fault, self.seconds, self.passed, self.failed = b"", "", 0, 0, 1
+        self.beside = re.search(r"^# gate: beside$", text, re.M) is not None
+        self.said, self.fault, self.seconds, self.spent, self.passed, self.failed = b"", "", 0, 0, 0, 1
         self.started, self.done = False, threading.Event()
 
-    def run(self, live):
+    def run(self, live, given=subprocess.DEVNULL):
         self.started, start = True, time.monotonic()
         try:
-            self.count(self.status(live))
+            self.count(self.status(live, given))
         except OSError as error:
             self.fault = f"{self.name}: could not run: {error}\n"
         finally:
             self.seconds = time.monotonic() - start
             self.done.set()
 
-    def status(self, live):
-        process = subprocess.Popen(self.command, cwd=ROOT, stdin=subprocess.DEVNULL, stdout=subprocess.PIPE, stderr=subprocess.STDOUT)
+    def status(self, live, given):
+        process = subprocess.Popen(self.command, cwd=ROOT, stdin=given, stdout=subprocess.PIPE, stderr=subprocess.STDOUT)
         for line in process.stdout:
             self.said += line
             if live:
                 show(line)
-        return process.wait()
+        _, status, usage = os.wait4(process.pid, 0)
+        self.spent, process.returncode = usage.ru_utime + usage.ru_stime, os.waitstatus_to_exitcode(status)
+        return process.returncode
 
     def count(self, status):
         """A part that exits with another status than 0 has failed too, though it counted no failure."""
@@ -60,7 +65,7 @@ class Part:
             self.fault = f"{self.name}: no closing line, exit status {status}\n"
 
     def close(self):
-        return f"{self.fault}== {self.name}: {self.seconds:.0f} s\n".encode()
+        return f"{self.fault}== {self.name}: {self.seconds:.0f} s, of a processor {self.spent:.0f}\n".encode()
 
 
 def show(said):
@@ -102,22 +107,46 @@ def together(parts):
         show(f"== {part.name}\n".encode() + part.said + part.close())
 
 
+class Beside:
+    """Parts that run beside the others: rt is still proving until the pipe that each has as its standard input is closed."""
+
+    def __init__(self, parts):
+        self.parts, (reading, self.writing) = parts, os.pipe()
+        for part in parts:
+            threading.Thread(target=part.run, args=(False, reading), daemon=True).start()
+
+    def tell_proved(self):
+        os.close(self.writing)
+
+    def tell(self):
+        for part in self.parts:
+            part.done.wait()
+            show(f"== {part.name}\n".encode() + part.said + part.close())
+
+
 def keep(parts, whole):
     """The seconds, for tests/seconds."""
     crates = re.findall(r"^rt: (\w+) proved \((\d+) s\)$", b"".join(part.said for part in parts).decode("utf-8", "replace"), re.M)
-    rows = [("crate", *crate) for crate in crates] + [("part", part.name, f"{part.seconds:.0f}") for part in parts]
+    rows = [("crate", *crate) for crate in crates]
+    rows += [("part", part.name, f"{part.seconds:.0f}", f"{part.spent:.0f}") for part in parts]
+    rows += [("whole", "the gate", f"{whole:.0f}", f"{sum(part.spent for part in parts):.0f}")]
     SECONDS.parent.mkdir(exist_ok=True)
-    SECONDS.write_text("".join("\t".join(row) + "\n" for row in rows + [("whole", "the gate", f"{whole:.0f}")]))
+    SECONDS.write_text("".join("\t".join(row) + "\n" for row in rows))
 
 
 def main():
     os.environ["LC_ALL"] = "C.UTF-8"
     start = time.monotonic()
-    parts = [Part("rt fmt --check", ["tests/layout"]), Part("rt ci", ["env", f"RT_JOBS={JOBS}", "rt", "ci"])]
-    for part in parts:
-        tell(part)
+    layout, proofs = Part("rt fmt --check", ["tests/layout"]), Part("rt ci", ["env", f"RT_JOBS={JOBS}", "rt", "ci"])
     tests = [Part(f"tests/gate/{path.name}", [path], path.read_text()) for path in sorted((ROOT / "tests" / "gate").iterdir())]
-    parts += tests
+    parts = [layout, proofs, *tests]
+    tell(layout)
+    # What follows rt must find nothing that an earlier run proved.
+    subprocess.run(["rm", "-rf", ROOT / "target"], check=True)
+    beside = Beside([part for part in tests if part.beside])
+    tell(proofs)
+    beside.tell_proved()
+    tests = [part for part in tests if not part.beside]
     while tests:
         run = next((k for k, part in enumerate(tests) if part.alone), len(tests))
         if run:
@@ -125,6 +154,7 @@ def main():
         else:
             tell(tests[0])
         tests = tests[run or 1 :]
+    beside.tell()
     passed, failed = sum(part.passed for part in parts), sum(part.failed for part in parts)
     failed += passed == 0
     keep(parts, time.monotonic() - start)

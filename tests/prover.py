@@ -19,7 +19,8 @@ import threading
 ROOT = pathlib.Path(__file__).resolve().parent.parent
 # What this run works on: checked modules, and a bench for each job.
 RUN = ROOT / "target" / "mutants" / f"run-{os.getpid()}"
-TIMEOUT = 300
+# Of a processor: a check that others go before may take far longer by the clock.
+SECONDS = 300
 # The changes of one check: with more of them little is saved, and the jobs end less evenly.
 LOT = 16
 # Errors that only say that a proof names what the changed code no longer has, or rests on another that was refused.
@@ -41,13 +42,45 @@ def is_program(crate):
     return (ROOT / "crates" / crate / "src" / "main.rt").exists()
 
 
-class Prover:
-    """The kit's prover, called as rt calls it."""
+class Proofs:
+    """The crates' proofs as they stand: all made, or with `follow` made by rt meanwhile, until standard input ends."""
 
-    def __init__(self):
+    def __init__(self, follow=False):
+        self.below, self.made = crates(), threading.Event()
+        if follow:
+            threading.Thread(target=self.wait_for_end, daemon=True).start()
+        else:
+            self.made.set()
+
+    def wait_for_end(self):
+        while os.read(0, 1):
+            pass
+        self.made.set()
+
+    def are_made(self):
+        return self.made.is_set()
+
+    def have(self, crate):
+        """Whether the crate can be tried: rt leaves a stamp of each that it proved, of a program only when it has run."""
+        needed = [name for name in self.below[crate] if name in self.below] + [crate] * (not is_program(crate))
+        return self.are_made() or all((ROOT / "target" / "stamp" / name).exists() for name in needed)
+
+    def wait_for(self, wanted):
+        """Waits until one of the crates can be tried, and gives those that can."""
+        while not (ready := [crate for crate in wanted if self.have(crate)]):
+            self.made.wait(0.2)
+        return ready
+
+
+class Prover:
+    """The kit's prover, called as rt calls it, and behind rt where that is still proving."""
+
+    def __init__(self, proofs):
+        self.proofs = proofs
         rt = shutil.which("rt") or sys.exit(f"{sys.argv[0]}: rt is not on the PATH")
         home = pathlib.Path(os.environ.get("RATTLE_HOME") or pathlib.Path(rt).resolve().parent.parent)
         self.kit = home / "on" / platform.machine()
+        self.spent = threading.local()
         self.logic = ["--antt-project", home / "logic" / "antt-project.json", "--logic-built", self.kit / "logic-built"]
         self.folder = self.folder_of_modules()
 
@@ -65,17 +98,28 @@ class Prover:
             words += ["--extern", f"{name}={own if own.exists() else self.kit / 'rlib' / f'{name}.rlib'}"]
         words += ["-L", f"dependency={ROOT / 'target' / 'rlib'}", "-L", f"dependency={self.kit / 'rlib'}"]
         words += self.logic + more
-        try:
-            ran = subprocess.run(words, stdout=subprocess.PIPE, stderr=subprocess.STDOUT, timeout=TIMEOUT)
-        except subprocess.TimeoutExpired:
-            return UNTOLD, ""
-        said = ran.stdout.decode("utf-8", "replace")
+        status, said = self.ran(words)
         verdict = [line for line in said.split("\n") if line.startswith("logic=")]
-        if ran.returncode == 0 and verdict and verdict[-1].startswith("logic=proved"):
+        if status == 0 and verdict and verdict[-1].startswith("logic=proved"):
             return PROVED, said
-        if ran.returncode == 1 and verdict and verdict[-1].startswith("logic=not-proved"):
+        if status == 1 and verdict and verdict[-1].startswith("logic=not-proved"):
             return REFUSED, said
-        return (UNTOLD if ran.returncode == 3 else REJECTED), said
+        return (REJECTED if status in (1, 2) else UNTOLD), said
+
+    def ran(self, words):
+        """How a command ended, negative where it was stopped, and what it said."""
+        limited = ["sh", "-c", f'ulimit -t {SECONDS}; exec "$@"', "sh"] + ["nice"] * (not self.proofs.are_made())
+        process = subprocess.Popen(limited + words, stdin=subprocess.DEVNULL, stdout=subprocess.PIPE, stderr=subprocess.STDOUT)
+        said = process.stdout.read().decode("utf-8", "replace")
+        _, status, usage = os.wait4(process.pid, 0)
+        self.spent.seconds = getattr(self.spent, "seconds", 0) + usage.ru_utime + usage.ru_stime
+        process.returncode = os.waitstatus_to_exitcode(status)
+        return process.returncode, said
+
+    def spent_since(self):
+        """The seconds of a processor that checks of this thread took since this was asked last."""
+        seconds, self.spent.seconds = getattr(self.spent, "seconds", 0), 0
+        return seconds
 
     def folder_of_modules(self):
         """What this build of the prover calls the folder of checked modules, told by a check of one function."""
@@ -264,8 +308,8 @@ class Work:
     """The lots still to try, by crate. A bench goes on with the crate that it holds and then takes one that no other holds:
     programs first, since the first check of each is of the whole program, and then what has most lots. At last it helps another."""
 
-    def __init__(self, lots):
-        self.lock, self.held, self.left = threading.Lock(), {}, {}
+    def __init__(self, lots, proofs):
+        self.lock, self.held, self.left, self.proofs = threading.Lock(), {}, {}, proofs
         for lot in lots:
             self.left.setdefault(lot[0].crate, []).append(lot)
 
@@ -274,6 +318,7 @@ class Work:
             left = [crate for crate in self.left if self.left[crate]]
             if not left:
                 return None
+            left = self.proofs.wait_for(left)
             if self.held.get(number) not in left:
                 free = [crate for crate in left if crate not in self.held.values()]
                 self.held[number] = max(free or left, key=lambda crate: (is_program(crate), len(self.left[crate])))
@@ -282,7 +327,7 @@ class Work:
 
 def try_all(lots, seeds, jobs, try_lot):
     """Hands each lot to `try_lot` with a bench, so many at a time."""
-    work = Work(lots)
+    work = Work(lots, seeds.prover.proofs)
 
     def one(number):
         bench = Bench(seeds, number)
