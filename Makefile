@@ -1,6 +1,6 @@
 # The C library and the programs, built and installed.
 #
-#   make            the library and the programs, proved; some minutes the first time
+#   make            the library and the programs, proved once for all of them; three to six minutes the first time
 #   make lib        the library alone, target/libflehwella.a
 #   make install    PREFIX=/usr/local by default; DESTDIR is put before every path
 #   make uninstall  takes out what install put in
@@ -22,7 +22,6 @@ VERSION := $(shell cat VERSION)
 PROGRAMS = daylist mkday
 INSTALL = install
 LIBRARY = target/libflehwella.a
-CRATES := $(shell find crates crates.txt -type f)
 
 # The way from a folder to another: $(call way,FROM,TO).
 way = $(shell realpath -ms --relative-to="$(1)" "$(2)")
@@ -31,21 +30,18 @@ ifeq ($(shell uname -m),x86_64)
 programs_here = install-programs
 endif
 
-all: lib programs
+all:
+	@tools/built $(PROGRAMS) library
 
-lib: $(LIBRARY)
-
-$(LIBRARY): $(CRATES)
-	mkdir -p target
-	flock target/lock rt staticlib desk
-	cp target/staticlib/libdesk.a $@
+lib:
+	@tools/built library
 
 programs:
-	for name in $(PROGRAMS); do tools/built $$name || exit; done
+	@tools/built $(PROGRAMS)
 
 install: install-library $(programs_here)
 
-install-library: $(LIBRARY)
+install-library: lib
 	$(INSTALL) -d "$(DESTDIR)$(includedir)" "$(DESTDIR)$(libdir)/pkgconfig" "$(DESTDIR)$(mandir)/man3"
 	$(INSTALL) -m 644 include/flehwella.h "$(DESTDIR)$(includedir)/"
 	$(INSTALL) -m 644 $(LIBRARY) "$(DESTDIR)$(libdir)/"
