@@ -1,15 +1,16 @@
 # The C library and the programs, built and installed.
 #
-#   make            the library and the programs, proved; some minutes the first time
+#   make            the library and the programs, proved once for all of them; three to six minutes the first time
 #   make lib        the library alone, target/libflehwella.a
 #   make install    PREFIX=/usr/local by default; DESTDIR is put before every path
 #   make uninstall  takes out what install put in
 #   make check      the gate
 #
 # The library and the programs are x86-64 code: elsewhere the library is for a cross compiler, and no program is installed.
+# An installed tree may be moved: what lies in it finds the rest by the way from itself.
 
 PREFIX = /usr/local
-prefix = $(abspath $(PREFIX))
+prefix := $(shell realpath -ms "$(PREFIX)")
 includedir = $(prefix)/include
 libdir = $(prefix)/lib
 libexecdir = $(prefix)/libexec
@@ -17,57 +18,63 @@ bindir = $(prefix)/bin
 datadir = $(prefix)/share
 mandir = $(datadir)/man
 
-VERSION = 0.1.0
+VERSION := $(shell cat VERSION)
 PROGRAMS = daylist mkday
 INSTALL = install
 LIBRARY = target/libflehwella.a
-CRATES := $(shell find crates crates.txt -type f)
 
-installed = $(includedir)/flehwella.h $(libdir)/libflehwella.a $(libdir)/pkgconfig/flehwella.pc \
-	$(mandir)/man3/flehwella_check.3 $(PROGRAMS:%=$(mandir)/man1/%.1) \
-	$(PROGRAMS:%=$(bindir)/%) $(PROGRAMS:%=$(libexecdir)/flehwella/%) $(datadir)/flehwella/refusals.txt
+# The way from a folder to another: $(call way,FROM,TO).
+way = $(shell realpath -ms --relative-to="$(1)" "$(2)")
 
 ifeq ($(shell uname -m),x86_64)
 programs_here = install-programs
 endif
 
-all: lib programs
+all:
+	@tools/built $(PROGRAMS) library
 
-lib: $(LIBRARY)
-
-$(LIBRARY): $(CRATES)
-	mkdir -p target
-	flock target/lock rt staticlib desk
-	cp target/staticlib/libdesk.a $@
+lib:
+	@tools/built library
 
 programs:
-	for name in $(PROGRAMS); do tools/built $$name || exit; done
+	@tools/built $(PROGRAMS)
 
 install: install-library $(programs_here)
 
-install-library: $(LIBRARY)
-	$(INSTALL) -d $(DESTDIR)$(includedir) $(DESTDIR)$(libdir)/pkgconfig $(DESTDIR)$(mandir)/man3
-	$(INSTALL) -m 644 include/flehwella.h $(DESTDIR)$(includedir)/
-	$(INSTALL) -m 644 $(LIBRARY) $(DESTDIR)$(libdir)/
-	sed -e 's|@prefix@|$(prefix)|' -e 's|@includedir@|$(includedir)|' -e 's|@libdir@|$(libdir)|' \
-		-e 's|@version@|$(VERSION)|' flehwella.pc.in >$(DESTDIR)$(libdir)/pkgconfig/flehwella.pc
-	$(INSTALL) -m 644 man/flehwella_check.3 $(DESTDIR)$(mandir)/man3/
+install-library: lib
+	$(INSTALL) -d "$(DESTDIR)$(includedir)" "$(DESTDIR)$(libdir)/pkgconfig" "$(DESTDIR)$(mandir)/man3"
+	$(INSTALL) -m 644 include/flehwella.h "$(DESTDIR)$(includedir)/"
+	$(INSTALL) -m 644 $(LIBRARY) "$(DESTDIR)$(libdir)/"
+	sed -e 's|@prefix@|$(call way,$(libdir)/pkgconfig,$(prefix))|' -e 's|@version@|$(VERSION)|' \
+		-e 's|@includedir@|$(call way,$(libdir)/pkgconfig,$(includedir))|' \
+		flehwella.pc.in >"$(DESTDIR)$(libdir)/pkgconfig/flehwella.pc"
+	chmod 644 "$(DESTDIR)$(libdir)/pkgconfig/flehwella.pc"
+	$(INSTALL) -m 644 man/flehwella_check.3 "$(DESTDIR)$(mandir)/man3/"
 
-# A program is proved code and lies in libexec; the command around it, which has the help and the exit status, is told where.
+# A program is proved code and lies in libexec; the command around it, which has the help and the exit status, is told the way there.
+data_there = "$$here/$(call way,$(bindir),$(datadir))/flehwella
 install-programs: programs
-	$(INSTALL) -d $(DESTDIR)$(bindir) $(DESTDIR)$(libexecdir)/flehwella $(DESTDIR)$(mandir)/man1 $(DESTDIR)$(datadir)/flehwella
-	$(INSTALL) -m 644 docs/refusals.txt $(DESTDIR)$(datadir)/flehwella/
+	$(INSTALL) -d "$(DESTDIR)$(bindir)" "$(DESTDIR)$(libexecdir)/flehwella" "$(DESTDIR)$(mandir)/man1" "$(DESTDIR)$(datadir)/flehwella"
+	$(INSTALL) -m 644 docs/refusals.txt "$(DESTDIR)$(datadir)/flehwella/"
+	sed -e 's|^version=.*|version=$(VERSION)|' -e 's|^refusals=.*|refusals=$(data_there)/refusals.txt"|' -e 's|^build() .*|build() { :; }|' \
+		-e 's|^program() .*|program() { exec "$$here/$(call way,$(bindir),$(libexecdir))/flehwella/$$name"; }|' \
+		tools/command.sh >"$(DESTDIR)$(datadir)/flehwella/command.sh"
+	chmod 644 "$(DESTDIR)$(datadir)/flehwella/command.sh"
 	for name in $(PROGRAMS); do \
-		$(INSTALL) -m 755 target/bin/$$name $(DESTDIR)$(libexecdir)/flehwella/ && \
-		sed -e '/^here=/d' -e 's|^build() .*|build() { :; }|' -e 's|^refusals=.*|refusals="$(datadir)/flehwella/refusals.txt"|' \
-			-e "s|^program() .*|program() { exec \"$(libexecdir)/flehwella/$$name\"; }|" $$name >$(DESTDIR)$(bindir)/$$name && \
-		chmod 755 $(DESTDIR)$(bindir)/$$name && \
-		$(INSTALL) -m 644 man/$$name.1 $(DESTDIR)$(mandir)/man1/ || exit; \
+		$(INSTALL) -m 755 target/bin/$$name "$(DESTDIR)$(libexecdir)/flehwella/" && \
+		sed -e 's|^\. .*|. $(data_there)/command.sh"|' $$name >"$(DESTDIR)$(bindir)/$$name" && \
+		chmod 755 "$(DESTDIR)$(bindir)/$$name" && \
+		$(INSTALL) -m 644 man/$$name.1 "$(DESTDIR)$(mandir)/man1/" || exit; \
 	done
 
 uninstall:
-	rm -f $(installed:%=$(DESTDIR)%)
-	-rmdir $(DESTDIR)$(libexecdir)/flehwella $(DESTDIR)$(datadir)/flehwella
+	rm -f "$(DESTDIR)$(includedir)/flehwella.h" "$(DESTDIR)$(libdir)/libflehwella.a" "$(DESTDIR)$(libdir)/pkgconfig/flehwella.pc" \
+		"$(DESTDIR)$(mandir)/man3/flehwella_check.3"
+	for name in $(PROGRAMS); do \
+		rm -f "$(DESTDIR)$(bindir)/$$name" "$(DESTDIR)$(libexecdir)/flehwella/$$name" "$(DESTDIR)$(mandir)/man1/$$name.1"; \
+	done
+	rm -f "$(DESTDIR)$(datadir)/flehwella/command.sh" "$(DESTDIR)$(datadir)/flehwella/refusals.txt"
+	-rmdir "$(DESTDIR)$(libexecdir)/flehwella" "$(DESTDIR)$(datadir)/flehwella"
 
 check:
 	.ci/run

@@ -1,0 +1,93 @@
+# Sourced by the commands daylist and mkday, which have set `name`, `here` and `usage` and made `help`: what their words ask for, where
+# the input comes from, and a run of the program. The four lines that say where things lie are others where it is installed.
+version=$(cat "$here/VERSION")
+refusals=$here/docs/refusals.txt
+build() { "$here/tools/built" "$name"; }
+program() { exec "$here/tools/run" "$name"; }
+
+fail() {
+    printf '%s: %s\n' "$name" "$*" >&2
+    exit 2
+}
+
+misused() { fail "$*${*:+; }usage: $usage, or $name --help"; }
+
+# tell TEXT: standard output gets the text, or it is told that it cannot.
+tell() {
+    printf '%s\n' "$1" 2>/dev/null || fail 'standard output cannot be written'
+    exit 0
+}
+
+# Looks at the command's words; `file` and whether it was `given` is what is left of them.
+read_words() {
+    given='' file=- over=
+    for word; do
+        case $over$word in
+        --help | -h)
+            text=$(help) || exit 2
+            tell "$text"
+            ;;
+        --version) tell "$name (Flehwella) $version" ;;
+        --) over=yes ;;
+        -?*) misused "$word is not known" ;;
+        *)
+            [ -z "$given" ] || misused "one file at a time, and $word is a second one"
+            given=yes file=$word
+            ;;
+        esac
+    done
+}
+
+# Standard input is the file from here on; a file is opened once, since it may be a pipe.
+open_input() {
+    if [ -z "$given" ] && [ -t 0 ]; then misused; fi
+    if [ "$file" = - ]; then return; fi
+    [ -e "$file" ] || fail "there is no file $file"
+    [ ! -d "$file" ] || fail "$file is a folder, not a file"
+    [ -r "$file" ] || fail "$file may not be read"
+    exec <"$file"
+}
+
+# Prints the refusals of the page, folded to 80 columns: number, what is wrong, and what to do.
+# help_refusals list|text
+help_refusals() {
+    awk -F'|' -v way="$1" '
+        function folded(first, indent, text,   words, count, i, line) {
+            count = split(text, words, " ")
+            line = first words[1]
+            for (i = 2; i <= count; i++)
+                if (length(line " " words[i]) <= 80) line = line " " words[i]
+                else { print line; line = indent words[i] }
+            print line
+        }
+        /^[0-9]/ && (way == "list" || $5 ~ /text/) { wrong[$1] = $3; remedy[$1] = $4 }
+        /^text / && way == "text" { wrong[substr($1, 6)] = $2; remedy[substr($1, 6)] = $3 }
+        END {
+            for (i = 0; i < 256; i++) if (i in wrong) {
+                folded(sprintf("  %2d  ", i), "      ", wrong[i])
+                folded("        ", "          ", remedy[i])
+            }
+        }' "$refusals"
+}
+
+stopped() {
+    trap '' HUP INT TERM
+    kill $! 2>/dev/null
+    fail 'ended by a signal before its work was whole'
+}
+
+# Runs the program, with what it makes straight to standard output. `told` is what it says on standard error, and `ended` its status.
+# Only `wait` lets a signal through at once, so the program runs beside the command; the file is gone before it starts.
+run() {
+    { true 3<&0; } 2>/dev/null || fail 'standard input is closed'
+    { true 3>&1; } 2>/dev/null || fail 'standard output is closed'
+    said=$(mktemp) || fail 'no temporary file can be made'
+    exec 3<&0 4>"$said" 5<"$said"
+    rm -f "$said"
+    trap stopped HUP INT TERM
+    program <&3 2>&4 3<&- 4>&- 5<&- &
+    ended=0
+    wait $! || ended=$?
+    trap - HUP INT TERM
+    told=$(cat <&5)
+}
