@@ -1,9 +1,11 @@
 # The C library and the programs, built and installed.
 #
 #   make            the library and the programs, proved once for all of them; three to six minutes the first time
-#   make lib        the library alone, target/libflehwella.a
+#   make lib        the library alone, target/libflehwella.a and target/libflehwella.so
 #   make install    PREFIX=/usr/local by default; DESTDIR is put before every path
 #   make uninstall  takes out what install put in
+#   make dist       an archive below target/dist that runs wherever it is unpacked, without the prover
+#   make deb        the same as a Debian package
 #   make check      the gate
 #
 # The library and the programs are x86-64 code: elsewhere the library is for a cross compiler, and no program is installed.
@@ -17,11 +19,14 @@ libexecdir = $(prefix)/libexec
 bindir = $(prefix)/bin
 datadir = $(prefix)/share
 mandir = $(datadir)/man
+docdir = $(datadir)/doc/flehwella
 
 VERSION := $(shell cat VERSION)
 PROGRAMS = daylist mkday
 INSTALL = install
 LIBRARY = target/libflehwella.a
+SHARED = libflehwella.so
+SONAME = $(SHARED).$(firstword $(subst ., ,$(VERSION)))
 
 # The way from a folder to another: $(call way,FROM,TO).
 way = $(shell realpath -ms --relative-to="$(1)" "$(2)")
@@ -39,12 +44,15 @@ lib:
 programs:
 	@tools/built $(PROGRAMS)
 
-install: install-library $(programs_here)
+install: install-library install-docs $(programs_here)
 
 install-library: lib
 	$(INSTALL) -d "$(DESTDIR)$(includedir)" "$(DESTDIR)$(libdir)/pkgconfig" "$(DESTDIR)$(mandir)/man3"
 	$(INSTALL) -m 644 include/flehwella.h "$(DESTDIR)$(includedir)/"
 	$(INSTALL) -m 644 $(LIBRARY) "$(DESTDIR)$(libdir)/"
+	$(INSTALL) -m 644 target/$(SHARED) "$(DESTDIR)$(libdir)/$(SHARED).$(VERSION)"
+	ln -sf $(SHARED).$(VERSION) "$(DESTDIR)$(libdir)/$(SONAME)"
+	ln -sf $(SONAME) "$(DESTDIR)$(libdir)/$(SHARED)"
 	sed -e 's|@prefix@|$(call way,$(libdir)/pkgconfig,$(prefix))|' -e 's|@version@|$(VERSION)|' \
 		-e 's|@includedir@|$(call way,$(libdir)/pkgconfig,$(includedir))|' \
 		flehwella.pc.in >"$(DESTDIR)$(libdir)/pkgconfig/flehwella.pc"
@@ -67,16 +75,31 @@ install-programs: programs
 		$(INSTALL) -m 644 man/$$name.1 "$(DESTDIR)$(mandir)/man1/" || exit; \
 	done
 
+# The page and what a buyer's part of it names, as they lie here.
+install-docs:
+	$(INSTALL) -d "$(DESTDIR)$(docdir)/docs" "$(DESTDIR)$(docdir)/examples"
+	$(INSTALL) -m 644 README.md CHANGELOG.md "$(DESTDIR)$(docdir)/"
+	$(INSTALL) -m 644 docs/TEXT.md "$(DESTDIR)$(docdir)/docs/"
+	$(INSTALL) -m 644 examples/* "$(DESTDIR)$(docdir)/examples/"
+
 uninstall:
 	rm -f "$(DESTDIR)$(includedir)/flehwella.h" "$(DESTDIR)$(libdir)/libflehwella.a" "$(DESTDIR)$(libdir)/pkgconfig/flehwella.pc" \
+		"$(DESTDIR)$(libdir)/$(SHARED)" "$(DESTDIR)$(libdir)/$(SONAME)" "$(DESTDIR)$(libdir)/$(SHARED).$(VERSION)" \
 		"$(DESTDIR)$(mandir)/man3/flehwella_check.3"
 	for name in $(PROGRAMS); do \
 		rm -f "$(DESTDIR)$(bindir)/$$name" "$(DESTDIR)$(libexecdir)/flehwella/$$name" "$(DESTDIR)$(mandir)/man1/$$name.1"; \
 	done
 	rm -f "$(DESTDIR)$(datadir)/flehwella/command.sh" "$(DESTDIR)$(datadir)/flehwella/refusals.txt"
+	rm -rf "$(DESTDIR)$(docdir)"
 	-rmdir "$(DESTDIR)$(libexecdir)/flehwella" "$(DESTDIR)$(datadir)/flehwella"
+
+dist: all
+	@tools/pack archive
+
+deb: all
+	@tools/pack deb
 
 check:
 	.ci/run
 
-.PHONY: all lib programs install install-library install-programs uninstall check
+.PHONY: all lib programs install install-library install-docs install-programs uninstall dist deb check

@@ -5,7 +5,8 @@ Its very last line is "N passed, M failed", both counted; it exits with 0 only w
 with its output shown whole and in order. A line `# gate: alone` in a test says that it uses every core by itself,
 `# gate: after NAME` that it uses what that test makes, and `# gate: beside` that it runs from the start beside everything else:
 it follows rt, whose proofs are all made once its standard input ends, and is shown last. target/seconds.tsv keeps the seconds of
-each part, from its start to its end and of a processor, and those of each crate's check.
+each part, from its start to its end and of a processor, and those of each crate's check, target/gate.txt the last line with the
+commit that it speaks of.
 """
 
 import os
@@ -134,6 +135,11 @@ def keep(parts, whole):
     SECONDS.write_text("".join("\t".join(row) + "\n" for row in rows))
 
 
+def commit():
+    words = ["git", "describe", "--always", "--dirty", "--abbrev=40", "--exclude", "*"]
+    return subprocess.run(words, cwd=ROOT, capture_output=True, text=True, check=False).stdout.strip()
+
+
 def main():
     os.environ["LC_ALL"] = "C.UTF-8"
     start = time.monotonic()
@@ -159,6 +165,7 @@ def main():
     failed += passed == 0
     keep(parts, time.monotonic() - start)
     print(f"the whole gate: {time.monotonic() - start:.0f} s")
+    (ROOT / "target" / "gate.txt").write_text(f"{commit()}: {passed} passed, {failed} failed\n")
     print(f"{passed} passed, {failed} failed")
     return 1 if failed else 0
 

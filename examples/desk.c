@@ -13,7 +13,7 @@ static const char *sentence(int32_t number)
 {
     switch (number) {
     /* tests/refusals */
-    case FLEHWELLA_CUT_SHORT: return "the record is cut short; the place is the length at hand";
+    case FLEHWELLA_CUT_SHORT: return "the record is cut short";
     case FLEHWELLA_KIND: return "a record of a kind that may not come there";
     case FLEHWELLA_QUARTERS: return "quarters of the day other than 92, 96 or 100";
     case FLEHWELLA_QUARTER: return "a quarter that the day does not have";
@@ -28,6 +28,13 @@ static const char *sentence(int32_t number)
     /* */
     default: return "a refusal that this call does not give";
     }
+}
+
+/* The day is judged first, so a block of no bytes is what is refused exactly where the day is not. */
+static int is_of_the_day(const uint8_t *day, size_t day_length)
+{
+    uint8_t room[1];
+    return day_length < FLEHWELLA_DAY_LENGTH || flehwella_check(day, day_length, day, 0, room, 0) != -FLEHWELLA_CUT_SHORT;
 }
 
 static uint32_t number_at(const uint8_t *at, int bytes)
@@ -92,7 +99,7 @@ int main(int words, char **word)
         return 2;
     const int32_t reply = flehwella_check(day, day_length, block, block_length, room, sizeof room);
     if (reply < 0)
-        printf("REFUSED %ld %s\n", (long)-reply, sentence(-reply));
+        printf("REFUSED %ld of the %s: %s\n", (long)-reply, is_of_the_day(day, day_length) ? "day" : "block", sentence(-reply));
     else
         print_result(room);
     if (fflush(stdout) != 0) {

@@ -46,7 +46,7 @@ extern "C" {
 /* tests/refusals */
 /* Every refusal of the house, by its number. flehwella_check gives 1 to 12. */
 enum flehwella_refusal {
-    /* the record is cut short; the place is the length at hand */
+    /* the record is cut short */
     FLEHWELLA_CUT_SHORT = 1,
     /* a record of a kind that may not come there */
     FLEHWELLA_KIND = 2,
@@ -86,6 +86,9 @@ enum flehwella_refusal {
  * a block before this one or of the day's end.
  *
  * Gives back the length written, FLEHWELLA_RESULT_LENGTH(units), or minus the number of a refusal; never 0.
+ *
+ * The day is what was refused where day_length is below FLEHWELLA_DAY_LENGTH, or where the same day with a block_length of 0
+ * gives another reply than -FLEHWELLA_CUT_SHORT; else it is the block.
  *
  * Accepted: the first bytes of the room, as many as the reply says, are the result, and the room beyond them is untouched.
  * Refused: the whole room is untouched. Room for FLEHWELLA_RESULT_MAX bytes fits any result.

@@ -1,5 +1,6 @@
-# Sourced by the commands daylist and mkday, which have set `name`, `here` and `usage` and made `help`: what their words ask for, where
-# the input comes from, and a run of the program. The four lines that say where things lie are others where it is installed.
+# Sourced by the commands daylist and mkday, which have set `name`, `here`, `usage`, what they `make` and in whose words of the page they
+# tell refusals (`way`), and made `help`: what their words ask for, where the input comes from, a run of the program, and the exit
+# status. The four lines that say where things lie are others where it is installed.
 version=$(cat "$here/VERSION")
 refusals=$here/docs/refusals.txt
 build() { "$here/tools/built" "$name"; }
@@ -49,9 +50,8 @@ open_input() {
 }
 
 # Prints the refusals of the page, folded to 80 columns: number, what is wrong, and what to do.
-# help_refusals list|text
 help_refusals() {
-    awk -F'|' -v way="$1" '
+    awk -F'|' -v way="$way" '
         function folded(first, indent, text,   words, count, i, line) {
             count = split(text, words, " ")
             line = first words[1]
@@ -73,7 +73,7 @@ help_refusals() {
 stopped() {
     trap '' HUP INT TERM
     kill $! 2>/dev/null
-    fail 'ended by a signal before its work was whole'
+    fail "ended by a signal; $makes is not whole"
 }
 
 # Runs the program, with what it makes straight to standard output. `told` is what it says on standard error, and `ended` its status.
@@ -90,4 +90,29 @@ run() {
     wait $! || ended=$?
     trap - HUP INT TERM
     told=$(cat <&5)
+}
+
+# explain NUMBER: what the page says of a refusal.
+explain() {
+    awk -F'|' -v way="$way" -v number="$1" -v name="$name" '
+        $1 == number { wrong = $3; remedy = $4 }
+        $1 == "text " number && way == "text" { wrong = $2; remedy = $3 }
+        END { if (wrong) print name ": what is wrong: " wrong "\n" name ": what to do: " remedy }' "$refusals" >&2
+}
+
+# Passes on what the program told, says what it means, and exits: with 0 where nothing was told, 1 where something was refused, and
+# else 2. A program whose output nobody reads any more ends as any does, without a word.
+conclude() {
+    [ -z "$told" ] || printf '%s\n' "$told" >&2
+    case $ended:$told in
+    0:) exit 0 ;;
+    141:) exit 2 ;;
+    0:*) ;;
+    *) fail "the program ended with status $ended; $makes is not whole" ;;
+    esac
+    number=$(printf '%s\n' "$told" | sed -n -e "s/^$name: refused \([0-9]*\).*/\1/p" -e 's/^REFUSED \([0-9]*\).*/\1/p')
+    [ "$number" ] || fail "$makes is not whole"
+    explain "$number"
+    printf '%s: %s is not whole\n' "$name" "$makes" >&2
+    exit 1
 }

@@ -191,6 +191,9 @@ static second_day take_day(body *b)
     day.last.brp = take_u16(b);
     day.last.zone = take_u8(b);
     day.last.quarter = take_u8(b);
+    /* A key that was never seen is not read, and a reply shows it as zero. */
+    if (!day.seen)
+        memset(&day.last, 0, sizeof day.last);
     return day;
 }
 
