@@ -1,3 +1,4 @@
 pub mod Digits
 pub mod Spaces
 pub mod Same
+pub mod Comments

@@ -1,10 +1,9 @@
--- The slice handed on is the field after the space.
-use Prim.Native.Nat.{_+_}
+-- The slice handed on is the field, and past the end there is none.
 use mathlib.Core.Path.{_∙_}
+use native.Mathlib.Omega.{arith}
 use denote.Ref.{now}
-use borrow.Author.Tests.{le-ltb, lt-ltb, ne-eqb, eq-eqb}
-use Rattle.text.specs.Numbers.{numberAt}
-use Rattle.text.proofs.Spaces.{field-at}
+use Rattle.text.specs.Numbers.{sizeOf, numberIn, numberAt}
+use Rattle.text.proofs.Spaces.{field-none, field-fits, field-at}
 use borrow.Author.Needs.{needs}
 use Rattle.text.proofs.numbers_in.number_at.Statement.{statement}
 use Rattle.text.proofs.numbers_in.number_at.Tie as tie
@@ -13,23 +12,8 @@ none-requires : tie.Need-none-requires
 none-requires c κs = search needs
 
 returns : tie.Need-returns
-unfolding numberAt
-returns c = simp (c .none .ensures, le-ltb _ _ (c .before .if1 .taken))
-
-shared-slice-read-if2 : tie.Need-shared-slice-read-if2
-shared-slice-read-if2 c = search needs
-
-none-requires-2 : tie.Need-none-requires-2
-none-requires-2 c κs = search needs
-
-returns-2 : tie.Need-returns-2
-unfolding numberAt
-returns-2 c =
-    let test1 = c .before .before .before in
-    simp (c .none2 .ensures, lt-ltb _ _ (test1 .if1 .left), ne-eqb _ _ (c .before .if2 .taken))
-
-add-first : tie.Need-add-first
-add-first c = search needs
+unfolding numberAt numberIn sizeOf
+returns c = rw (c .none .ensures, field-none (now (c .before .before .before .args .text)) (c .before .before .before .args .start) (c .before .if1 .taken))
 
 field-end-requires : tie.Need-field-end-requires
 field-end-requires c κs = search needs
@@ -41,21 +25,17 @@ part-number-in-start : tie.Need-part-number-in-start
 part-number-in-start c = search needs
 
 part-number-in-end : tie.Need-part-number-in-end
-part-number-in-end c = search needs
+part-number-in-end c = omega (arith, field-fits (now (c .before .before .before .args .text)) (c .before .before .before .args .start) (omega arith))
 
 number-in-requires : tie.Need-number-in-requires
 number-in-requires c κs = search needs
 
-returns-3 : tie.Need-returns-3
+returns-2 : tie.Need-returns-2
 unfolding numberAt
-returns-3 c =
-    let test2 = c .before .before .before in
-    let start = test2 .before .before .before .before in
-    let text = now (start .args .text) in
-    let at = start .args .at in
-    let end = c .before .before .field-end .result in
-    let e = c .before .before .field-end .ensures .0 in
-    simp (lt-ltb _ _ (test2 .before .before .if1 .left), eq-eqb _ _ (test2 .if2 .left)) (c .number-in .ensures ∙ rw (field-at text (at + 1) end e, e))
+returns-2 c =
+    let read = c .before .before in
+    let start = read .before .before .before in
+    c .number-in .ensures ∙ rw (field-at (now (start .args .text)) (start .args .start) (read .field-end .result) (read .field-end .ensures))
 
 pub number-at-spec : {M : Type 1} → statement M
 number-at-spec =
@@ -63,13 +43,9 @@ number-at-spec =
     (tie.spec
     none-requires
     returns
-    shared-slice-read-if2
-    none-requires-2
-    returns-2
-    add-first
     field-end-requires
     sub-number-in
     part-number-in-start
     part-number-in-end
     number-in-requires
-    returns-3)
+    returns-2)
