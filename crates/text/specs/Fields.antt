@@ -13,7 +13,10 @@ use Rattle.text.specs.declared.fields.Byte.{Byte}
 use Rattle.text.specs.declared.fields.Short.{Short}
 use Rattle.text.specs.declared.fields.Long.{Long}
 use Rattle.text.specs.declared.fields.Kwh.{Kwh}
-use Rattle.text.specs.Numbers.{blanks, fieldOf, numberAt}
+use Rattle.text.specs.declared.values_in.Form.{Form}
+use Rattle.text.specs.declared.values_in.Form.the-variants.{Number, Day, Minute}
+use Rattle.text.specs.Numbers.{blanks, fieldOf}
+use Rattle.text.specs.Dates.{valueAt}
 
 -- where the field after a place starts
 abbrev pub startAfter : List ℕ → ℕ → ℕ
@@ -49,29 +52,39 @@ abbrev pub unsignedOf : ℕ → Whole → Field → Unsigned
 unsignedOf most n f =
     pick (n .good && (not (n .negative) && leb (n .size) most)) (record { value = n .size; field = f }) (noUnsigned f)
 
--- the field after the one before, whose value is read by the rule given
-abbrev pub unsignedBy : (List ℕ → ℕ → Whole) → ℕ → List ℕ → ℕ → Field → Unsigned
-unsignedBy read most text index before =
+-- the value of the field after the one before
+unfoldable pub unsignedAt : Form → ℕ → List ℕ → ℕ → Field → Unsigned
+unsignedAt form most text index before =
     pick (before .good)
-    (unsignedOf most (read text (fieldAt text index (before .end) .start)) (fieldAt text index (before .end)))
+    (unsignedOf most (valueAt form text (fieldAt text index (before .end) .start)) (fieldAt text index (before .end)))
     (record { value = 0; field = before })
 
-unfoldable pub unsignedAt : ℕ → List ℕ → ℕ → Field → Unsigned
-unsignedAt most text index before = unsignedBy numberAt most text index before
+abbrev pub shortAt : Form → List ℕ → ℕ → Field → Short
+shortAt form text index before =
+    record { value = unsignedAt form 65535 text index before .value; field = unsignedAt form 65535 text index before .field }
+
+abbrev pub longAt : Form → List ℕ → ℕ → Field → Long
+longAt form text index before =
+    record
+    { value = unsignedAt form 4294967295 text index before .value; field = unsignedAt form 4294967295 text index before .field }
 
 -- a number of 8, 16 or 32 bits
 unfoldable pub u8At : List ℕ → ℕ → Field → Byte
 u8At text index before =
-    record { value = unsignedAt 255 text index before .value; field = unsignedAt 255 text index before .field }
+    record { value = unsignedAt Number 255 text index before .value; field = unsignedAt Number 255 text index before .field }
 
 unfoldable pub u16At : List ℕ → ℕ → Field → Short
-u16At text index before =
-    record { value = unsignedAt 65535 text index before .value; field = unsignedAt 65535 text index before .field }
+u16At text index before = shortAt Number text index before
 
 unfoldable pub u32At : List ℕ → ℕ → Field → Long
-u32At text index before =
-    record
-    { value = unsignedAt 4294967295 text index before .value; field = unsignedAt 4294967295 text index before .field }
+u32At text index before = longAt Number text index before
+
+-- a day and a minute, as dates or as numbers
+unfoldable pub dayAt : List ℕ → ℕ → Field → Short
+dayAt text index before = shortAt Day text index before
+
+unfoldable pub minuteAt : List ℕ → ℕ → Field → Long
+minuteAt text index before = longAt Minute text index before
 
 -- a signed number of 32 bits
 abbrev pub noKwh : Field → Kwh
@@ -90,5 +103,5 @@ signedOf n f =
 unfoldable pub i32At : List ℕ → ℕ → Field → Kwh
 i32At text index before =
     pick (before .good)
-    (signedOf (numberAt text (fieldAt text index (before .end) .start)) (fieldAt text index (before .end)))
+    (signedOf (valueAt Number text (fieldAt text index (before .end) .start)) (fieldAt text index (before .end)))
     (noKwh before)

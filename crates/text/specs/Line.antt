@@ -10,7 +10,7 @@ use Rattle.text.specs.declared.line.Line.{Line}
 use Rattle.text.specs.declared.line.Line.the-variants.{Day, Group, Unit, End, Passed, TooLong, Not}
 use Rattle.text.specs.declared.fields.Field.{Field}
 use Rattle.text.specs.Numbers.{isBlank, fieldOf}
-use Rattle.text.specs.Fields.{fieldAt, wrong, overAt, u8At, u16At, u32At, i32At}
+use Rattle.text.specs.Fields.{fieldAt, wrong, overAt, u8At, u16At, u32At, i32At, dayAt, minuteAt}
 
 -- ---- words
 unfoldable pub same : List ℕ → List ℕ → Bool
@@ -39,9 +39,9 @@ ended kind last line = pick (last .good) line (Not kind last)
 
 unfoldable pub dayOf : List ℕ → Field → Line
 dayOf text word =
-    let day = u16At text 1 word in
+    let day = dayAt text 1 word in
     let quarters = u8At text 2 (day .field) in
-    let run = u32At text 3 (quarters .field) in
+    let run = minuteAt text 3 (quarters .field) in
     let position-limit = u16At text 4 (run .field) in
     let margin-limit = u16At text 5 (position-limit .field) in
     ended dayKind (overAt text 6 (margin-limit .field))
@@ -53,7 +53,7 @@ groupOf text word =
     let zone = u8At text 2 (brp .field) in
     let quarter = u8At text 3 (zone .field) in
     let count = u8At text 4 (quarter .field) in
-    let made = u32At text 5 (count .field) in
+    let made = minuteAt text 5 (count .field) in
     ended groupKind (overAt text 6 (made .field))
     (Group (groupWith (brp .value) (zone .value) (quarter .value) (count .value) (made .value)))
 
@@ -67,7 +67,7 @@ unitOf text word =
     let pc = i32At text 6 (n .field) in
     let step-down = i32At text 7 (pc .field) in
     let step-up = i32At text 8 (step-down .field) in
-    let made = u32At text 9 (step-up .field) in
+    let made = minuteAt text 9 (step-up .field) in
     ended unitKind (overAt text 10 (made .field))
     (Unit
     (unitWith

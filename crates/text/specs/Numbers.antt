@@ -59,7 +59,3 @@ wholeOf below No = noWhole
 
 unfoldable pub numberIn : List ℕ → Whole
 numberIn field = pick (minus field) (wholeOf true (sizeOf (drop 1 field))) (wholeOf false (sizeOf field))
-
--- the number of the field that starts at a place
-unfoldable pub numberAt : List ℕ → ℕ → Whole
-numberAt text start = numberIn (fieldOf (drop start text))

@@ -1,11 +1,12 @@
 // The fields of a line: where each stands, whether it is in the form, and its value by width.
 ghost use mathlib.Core.Path.{_≡_};
 ghost use Prim.Native.Nat.{_≤_};
-ghost use Rattle.text.specs.Fields.{fieldAt, wrong, overAt, noUnsigned, unsignedOf, unsignedAt, u8At, u16At, u32At, noKwh, negativeOf, positiveOf, signedOf, i32At};
+ghost use Rattle.text.specs.Fields.{fieldAt, wrong, overAt, noUnsigned, unsignedOf, unsignedAt, u8At, u16At, u32At, dayAt, minuteAt, noKwh, negativeOf, positiveOf, signedOf, i32At};
 use crate::numbers_in::Whole;
 use crate::numbers_in::after_blanks;
 use crate::numbers_in::field_end;
-use crate::numbers_in::number_at;
+use crate::values_in::Form;
+use crate::values_in::value_at;
 
 // A field by its index in the record, 0 the word itself, where it starts and ends in the text, and whether it and all before it are in the form.
 pub struct Field {
@@ -109,8 +110,8 @@ fn unsigned_of(n: Whole, most: u64, field: Field) -> Unsigned
     }
 }
 
-fn unsigned_at(text: &[u8], index: u8, before: Field, most: u64) -> Unsigned
-    ensures { λ r. ⌜ (r ≡ unsignedAt most (now (text .entry)) index before) × (r .value ≤ most) ⌝ }
+fn unsigned_at(text: &[u8], index: u8, before: Field, most: u64, form: Form) -> Unsigned
+    ensures { λ r. ⌜ (r ≡ unsignedAt form most (now (text .entry)) index before) × (r .value ≤ most) ⌝ }
 {
     if !before.good {
         return Unsigned {
@@ -119,13 +120,13 @@ fn unsigned_at(text: &[u8], index: u8, before: Field, most: u64) -> Unsigned
         };
     }
     let field = field_at(text, index, before.end);
-    unsigned_of(number_at(text, field.start), most, field)
+    unsigned_of(value_at(text, field.start, form), most, field)
 }
 
 pub fn u8_at(text: &[u8], index: u8, before: Field) -> Byte
     ensures { λ r. ⌜ r ≡ u8At (now (text .entry)) index before ⌝ }
 {
-    let n = unsigned_at(text, index, before, 255);
+    let n = unsigned_at(text, index, before, 255, Form::Number);
     let field = n.field;
     Byte {
         value: n.value as u8,
@@ -136,7 +137,7 @@ pub fn u8_at(text: &[u8], index: u8, before: Field) -> Byte
 pub fn u16_at(text: &[u8], index: u8, before: Field) -> Short
     ensures { λ r. ⌜ r ≡ u16At (now (text .entry)) index before ⌝ }
 {
-    let n = unsigned_at(text, index, before, 65535);
+    let n = unsigned_at(text, index, before, 65535, Form::Number);
     let field = n.field;
     Short {
         value: n.value as u16,
@@ -147,7 +148,31 @@ pub fn u16_at(text: &[u8], index: u8, before: Field) -> Short
 pub fn u32_at(text: &[u8], index: u8, before: Field) -> Long
     ensures { λ r. ⌜ r ≡ u32At (now (text .entry)) index before ⌝ }
 {
-    let n = unsigned_at(text, index, before, 4294967295);
+    let n = unsigned_at(text, index, before, 4294967295, Form::Number);
+    let field = n.field;
+    Long {
+        value: n.value as u32,
+        field,
+    }
+}
+
+// A day, as a date or as a number.
+pub fn day_at(text: &[u8], index: u8, before: Field) -> Short
+    ensures { λ r. ⌜ r ≡ dayAt (now (text .entry)) index before ⌝ }
+{
+    let n = unsigned_at(text, index, before, 65535, Form::Day);
+    let field = n.field;
+    Short {
+        value: n.value as u16,
+        field,
+    }
+}
+
+// A minute, as a date or as a number.
+pub fn minute_at(text: &[u8], index: u8, before: Field) -> Long
+    ensures { λ r. ⌜ r ≡ minuteAt (now (text .entry)) index before ⌝ }
+{
+    let n = unsigned_at(text, index, before, 4294967295, Form::Minute);
     let field = n.field;
     Long {
         value: n.value as u32,
@@ -204,5 +229,5 @@ pub fn i32_at(text: &[u8], index: u8, before: Field) -> Kwh
         return no_kwh(before);
     }
     let field = field_at(text, index, before.end);
-    signed_of(number_at(text, field.start), field)
+    signed_of(value_at(text, field.start, Form::Number), field)
 }

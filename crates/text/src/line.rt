@@ -6,8 +6,10 @@ ghost use lib.Dec.{eqb};
 ghost use lib.ListN.{length};
 ghost use Rattle.text.specs.Line.{same, dayOf, groupOf, unitOf, endOf, fieldsOf, recordOf, uncommented, bareLength, bareOf, markLength, lineOf};
 use crate::fields::Field;
+use crate::fields::day_at;
 use crate::fields::field_at;
 use crate::fields::i32_at;
+use crate::fields::minute_at;
 use crate::fields::over_at;
 use crate::fields::u8_at;
 use crate::fields::u16_at;
@@ -63,9 +65,9 @@ fn is_same(a: &[u8], b: &[u8]) -> bool
 fn day_in(text: &[u8], word: Field) -> Line
     ensures { λ r. ⌜ r ≡ dayOf (now (text .entry)) word ⌝ }
 {
-    let day = u16_at(text, 1, word);
+    let day = day_at(text, 1, word);
     let quarters = u8_at(text, 2, day.field);
-    let run = u32_at(text, 3, quarters.field);
+    let run = minute_at(text, 3, quarters.field);
     let position_limit = u16_at(text, 4, run.field);
     let margin_limit = u16_at(text, 5, position_limit.field);
     let last = over_at(text, 6, margin_limit.field);
@@ -88,7 +90,7 @@ fn group_in(text: &[u8], word: Field) -> Line
     let zone = u8_at(text, 2, brp.field);
     let quarter = u8_at(text, 3, zone.field);
     let count = u8_at(text, 4, quarter.field);
-    let made = u32_at(text, 5, count.field);
+    let made = minute_at(text, 5, count.field);
     let last = over_at(text, 6, made.field);
     if !last.good {
         return Line::Not(GroupRecord::KIND, last);
@@ -113,7 +115,7 @@ fn unit_in(text: &[u8], word: Field) -> Line
     let pc = i32_at(text, 6, n.field);
     let step_down = i32_at(text, 7, pc.field);
     let step_up = i32_at(text, 8, step_down.field);
-    let made = u32_at(text, 9, step_up.field);
+    let made = minute_at(text, 9, step_up.field);
     let last = over_at(text, 10, made.field);
     if !last.good {
         return Line::Not(UnitRecord::KIND, last);

@@ -3,7 +3,7 @@ ghost use mathlib.Core.Path.{_≡_};
 ghost use mathlib.Core.Bool.{true};
 ghost use Prim.Native.Nat.{_+_, _-_, _≤_};
 ghost use lib.ListN.{length, drop};
-ghost use Rattle.text.specs.Numbers.{isDigit, sizeOf, isBlank, blanks, fieldOf, minus, noWhole, numberIn, numberAt};
+ghost use Rattle.text.specs.Numbers.{isDigit, sizeOf, isBlank, blanks, fieldOf, minus, noWhole, numberIn};
 
 const TAB: u8 = 9;
 
@@ -23,7 +23,7 @@ pub struct Whole {
     pub good: bool,
 }
 
-fn none() -> Whole
+pub fn none() -> Whole
     ensures { λ r. ⌜ r ≡ noWhole ⌝ }
 {
     Whole {
@@ -50,7 +50,7 @@ fn digit(byte: u8) -> u64
 }
 
 // The number that one digit or more make, unless it is above the largest.
-fn size_of(digits: &[u8]) -> Size
+pub fn size_of(digits: &[u8]) -> Size
     ensures { λ r. ⌜ r ≡ sizeOf (now (digits .entry)) ⌝ }
 {
     if digits.len() == 0 {
@@ -113,7 +113,7 @@ fn is_negative(field: &[u8]) -> bool
 }
 
 // A whole field as a number.
-fn number_in(field: &[u8]) -> Whole
+pub fn number_in(field: &[u8]) -> Whole
     ensures { λ r. ⌜ r ≡ numberIn (now (field .entry)) ⌝ }
 {
     if is_negative(field) {
@@ -134,15 +134,4 @@ fn number_in(field: &[u8]) -> Whole
         size,
         good: true,
     }
-}
-
-// The number of the field that starts at a place.
-pub fn number_at(text: &[u8], start: usize) -> Whole
-    ensures { λ r. ⌜ r ≡ numberAt (now (text .entry)) start ⌝ }
-{
-    if text.len() <= start {
-        return none();
-    }
-    let end = field_end(text, start);
-    number_in(&text[start..end])
 }

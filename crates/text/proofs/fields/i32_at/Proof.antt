@@ -15,8 +15,8 @@ returns c = rw (c .no-kwh .ensures, not-true (c .before .before .before .before 
 field-at-requires : tie.Need-field-at-requires
 field-at-requires c κs = search needs
 
-number-at-requires : tie.Need-number-at-requires
-number-at-requires c κs = search needs
+value-at-requires : tie.Need-value-at-requires
+value-at-requires c κs = search needs
 
 signed-of-requires : tie.Need-signed-of-requires
 signed-of-requires c κs = search needs
@@ -26,7 +26,7 @@ unfolding i32At
 returns-2 c =
     let field-at = c .before .before in
     let good = not-false (c .before .before .before .before .before .before .args .before .good) (field-at .before .if1 .left) in
-    rw (good, ← (field-at .field-at .ensures), ← (c .before .number-at .ensures)) (c .signed-of .ensures)
+    rw (good, ← (field-at .field-at .ensures), ← (c .before .value-at .ensures)) (c .signed-of .ensures)
 
 pub i32-at-spec : {M : Type 1} → statement M
 i32-at-spec =
@@ -35,6 +35,6 @@ i32-at-spec =
     no-kwh-requires
     returns
     field-at-requires
-    number-at-requires
+    value-at-requires
     signed-of-requires
     returns-2)

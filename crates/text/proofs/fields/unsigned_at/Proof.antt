@@ -13,8 +13,8 @@ returns c = (rw (not-true (c .before .before .before .args .before .good) (c .if
 field-at-requires : tie.Need-field-at-requires
 field-at-requires c κs = search needs
 
-number-at-requires : tie.Need-number-at-requires
-number-at-requires c κs = search needs
+value-at-requires : tie.Need-value-at-requires
+value-at-requires c κs = search needs
 
 unsigned-of-requires : tie.Need-unsigned-of-requires
 unsigned-of-requires c κs = search needs
@@ -24,9 +24,9 @@ unfolding unsignedAt
 returns-2 c =
     let field-at = c .before .before in
     let good = not-false (c .before .before .before .before .before .before .args .before .good) (field-at .before .if1 .left) in
-    (rw (good, ← (field-at .field-at .ensures), ← (c .before .number-at .ensures)) (c .unsigned-of .ensures .0), c .unsigned-of .ensures .1)
+    (rw (good, ← (field-at .field-at .ensures), ← (c .before .value-at .ensures)) (c .unsigned-of .ensures .0), c .unsigned-of .ensures .1)
 
 pub unsigned-at-spec : {M : Type 1} → statement M
 unsigned-at-spec =
     tie.close
-    (tie.spec returns field-at-requires number-at-requires unsigned-of-requires returns-2)
+    (tie.spec returns field-at-requires value-at-requires unsigned-of-requires returns-2)
