@@ -2,12 +2,13 @@
 ghost use Prim.Native.Nat.{_≤_};
 use libc::STDIN_FILENO;
 use text::line::LONGEST;
+use text::line::MARK;
 
 const LINE_FEED: u8 = 10;
 
-// A line that fills this is too long.
-pub fn blank() -> [u8; LONGEST + 1] {
-    [0; LONGEST + 1]
+// A line that fills this is too long, or its comment is cut.
+pub fn blank() -> [u8; MARK + LONGEST + 1] {
+    [0; MARK + LONGEST + 1]
 }
 
 // Where the reading stands: the next byte and the end of the chunk, the lines so far, and the length of the one at hand.

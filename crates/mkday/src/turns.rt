@@ -52,7 +52,7 @@ fn keep(input: Input, making: Making, output: &[u8], full: usize) -> Step
 // What a line makes in the room.
 fn made_in(room: &mut [u8], input: Input, making: Making, line: &[u8]) -> Made {
     let length = least(input.length, line.len());
-    let l = line_in(&line[..length]);
+    let l = line_in(&line[..length], input.lines);
     making.turn(l, input.lines, room)
 }
 

@@ -1,3 +1,5 @@
 pub mod Digits
 pub mod Spaces
 pub mod Same
+pub mod Comments
+pub mod Values

@@ -3,13 +3,14 @@ use Prim.Native.Nat.{ℕ, _-_}
 use mathlib.Core.Bool.{Bool, true, false, _&&_, _||_}
 use mathlib.Core.List.{List, [], _∷_}
 use lib.Dec.{eqb, ltb}
-use lib.ListN.{length, getD, take}
+use lib.ListN.{length, getD, take, drop}
 use Rattle.numbers.specs.Choice.{pick}
 use Rattle.records.specs.Layouts.{dayKind, dayWith, groupWith, unitWith, groupKind, unitKind, endKind}
 use Rattle.text.specs.declared.line.Line.{Line}
 use Rattle.text.specs.declared.line.Line.the-variants.{Day, Group, Unit, End, Passed, TooLong, Not}
-use Rattle.text.specs.Numbers.{fieldOf}
-use Rattle.text.specs.Fields.{u8At, u16At, u32At, i32At}
+use Rattle.text.specs.declared.fields.Field.{Field}
+use Rattle.text.specs.Numbers.{isBlank, fieldOf}
+use Rattle.text.specs.Fields.{fieldAt, wrong, overAt, u8At, u16At, u32At, i32At, dayAt, minuteAt}
 
 -- ---- words
 unfoldable pub same : List ℕ → List ℕ → Bool
@@ -31,43 +32,43 @@ unitWord = 85 ∷ 78 ∷ 73 ∷ 84 ∷ []
 abbrev pub endWord : List ℕ
 endWord = 69 ∷ 78 ∷ 68 ∷ []
 
--- ---- records: each field starts where the one before ends, and the last ends where the text does
--- the record of a kind, where its last field ends there
-abbrev pub ended : List ℕ → ℕ → ℕ → Line → Line
-ended text next kind line = pick (eqb next (length text)) line (Not kind)
+-- ---- records: each field starts where the one before ends, and after the last stands nothing
+-- the record of a kind, unless a field is wrong
+abbrev pub ended : ℕ → Field → Line → Line
+ended kind last line = pick (last .good) line (Not kind last)
 
-unfoldable pub dayOf : List ℕ → ℕ → Line
-dayOf text at =
-    let day = u16At text at in
-    let quarters = u8At text (day .next) in
-    let run = u32At text (quarters .next) in
-    let position-limit = u16At text (run .next) in
-    let margin-limit = u16At text (position-limit .next) in
-    ended text (margin-limit .next) dayKind
+unfoldable pub dayOf : List ℕ → Field → Line
+dayOf text word =
+    let day = dayAt text 1 word in
+    let quarters = u8At text 2 (day .field) in
+    let run = minuteAt text 3 (quarters .field) in
+    let position-limit = u16At text 4 (run .field) in
+    let margin-limit = u16At text 5 (position-limit .field) in
+    ended dayKind (overAt text 6 (margin-limit .field))
     (Day (dayWith (day .value) (quarters .value) (run .value) (position-limit .value) (margin-limit .value)))
 
-unfoldable pub groupOf : List ℕ → ℕ → Line
-groupOf text at =
-    let brp = u16At text at in
-    let zone = u8At text (brp .next) in
-    let quarter = u8At text (zone .next) in
-    let count = u8At text (quarter .next) in
-    let made = u32At text (count .next) in
-    ended text (made .next) groupKind
+unfoldable pub groupOf : List ℕ → Field → Line
+groupOf text word =
+    let brp = u16At text 1 word in
+    let zone = u8At text 2 (brp .field) in
+    let quarter = u8At text 3 (zone .field) in
+    let count = u8At text 4 (quarter .field) in
+    let made = minuteAt text 5 (count .field) in
+    ended groupKind (overAt text 6 (made .field))
     (Group (groupWith (brp .value) (zone .value) (quarter .value) (count .value) (made .value)))
 
-unfoldable pub unitOf : List ℕ → ℕ → Line
-unitOf text at =
-    let number = u16At text at in
-    let class = u8At text (number .next) in
-    let coincide = u8At text (class .next) in
-    let nominated = u8At text (coincide .next) in
-    let n = i32At text (nominated .next) in
-    let pc = i32At text (n .next) in
-    let step-down = i32At text (pc .next) in
-    let step-up = i32At text (step-down .next) in
-    let made = u32At text (step-up .next) in
-    ended text (made .next) unitKind
+unfoldable pub unitOf : List ℕ → Field → Line
+unitOf text word =
+    let number = u16At text 1 word in
+    let class = u8At text 2 (number .field) in
+    let coincide = u8At text 3 (class .field) in
+    let nominated = u8At text 4 (coincide .field) in
+    let n = i32At text 5 (nominated .field) in
+    let pc = i32At text 6 (n .field) in
+    let step-down = i32At text 7 (pc .field) in
+    let step-up = i32At text 8 (step-down .field) in
+    let made = minuteAt text 9 (step-up .field) in
+    ended unitKind (overAt text 10 (made .field))
     (Unit
     (unitWith
     (number .value)
@@ -80,31 +81,48 @@ unitOf text at =
     (step-up .value)
     (made .value)))
 
-unfoldable pub endOf : List ℕ → ℕ → Line
-endOf text at =
-    let groups = u32At text at in
-    ended text (groups .next) endKind (End (record { groups = groups .value }))
+unfoldable pub endOf : List ℕ → Field → Line
+endOf text word =
+    let groups = u32At text 1 word in
+    ended endKind (overAt text 2 (groups .field))
+    (End (record { groups = groups .value }))
 
--- the record that a word begins, its fields from a place on; no record is of kind 0
-unfoldable pub fieldsOf : List ℕ → List ℕ → ℕ → Line
-fieldsOf word text at =
-    pick (same word unitWord) (unitOf text at)
-    (pick (same word groupWord) (groupOf text at)
-    (pick (same word dayWord) (dayOf text at)
-    (pick (same word endWord) (endOf text at)
-    (Not 0))))
+-- the record that a word begins; no record is of kind 0
+unfoldable pub fieldsOf : List ℕ → List ℕ → Field → Line
+fieldsOf name text word =
+    pick (same name unitWord) (unitOf text word)
+    (pick (same name groupWord) (groupOf text word)
+    (pick (same name dayWord) (dayOf text word)
+    (pick (same name endWord) (endOf text word)
+    (Not 0 (wrong word)))))
 
 -- ---- lines
+-- a word, index 0, and the fields after it; blanks alone are passed over
 unfoldable pub recordOf : List ℕ → Line
-recordOf text = pick (eqb (length text) 0) Passed (fieldsOf (fieldOf text) text (length (fieldOf text)))
+recordOf text =
+    pick (eqb (fieldAt text 0 0 .start) (length text)) Passed
+    (fieldsOf (fieldOf (drop (fieldAt text 0 0 .start) text)) text (fieldAt text 0 0))
+
+-- what stands in front of a comment: '#' at the front or after a blank
+unfoldable pub uncommented : Bool → List ℕ → List ℕ
+uncommented fresh [] = []
+uncommented fresh (b ∷ s) = pick (fresh && eqb b 35) [] (b ∷ uncommented (isBlank b) s)
 
 -- the length without the carriage return at the end
 abbrev pub bareLength : List ℕ → ℕ
 bareLength line = pick (eqb (getD line (length line - 1) 0) 13) (length line - 1) (length line)
 
--- empty lines and those that start with '#' are passed over, any other has at most 255 bytes
-unfoldable pub lineOf : List ℕ → Line
-lineOf line =
-    pick (eqb (length line) 0 || eqb (getD line 0 0) 35) Passed
-    (pick (ltb 255 (length line)) TooLong
-    (recordOf (take (bareLength line) line)))
+-- in front of its comment a line has at most 255 bytes
+unfoldable pub bareOf : List ℕ → Line
+bareOf text = pick (ltb 255 (length text)) TooLong (recordOf (take (bareLength text) text))
+
+-- EF BB BF, the byte order mark, and how many bytes of it stand at the front of the text
+abbrev pub byteOrderMark : List ℕ
+byteOrderMark = 239 ∷ 187 ∷ 191 ∷ []
+
+abbrev pub markLength : List ℕ → ℕ → ℕ
+markLength line number = pick (eqb number 1 && same (take 3 line) byteOrderMark) 3 0
+
+-- a line by its number, which is 1 at the front of the text
+unfoldable pub lineOf : List ℕ → ℕ → Line
+lineOf line number = bareOf (uncommented true (drop (markLength line number) line))

@@ -119,7 +119,7 @@ mayCome m (Unit u) = isDue m unitKind
 mayCome m (End e) = isDue m endKind
 mayCome m Passed = true
 mayCome m TooLong = not (isOver m)
-mayCome m (Not kind) = isDue m kind
+mayCome m (Not kind field) = isDue m kind
 
 -- what a line makes that may come; 0 where it is not in the form
 abbrev pub lineTurn : Making → Line → ℕ → List ℕ → Turn
@@ -129,7 +129,7 @@ lineTurn m (Unit u) line room = unitNext m u line room
 lineTurn m (End e) line room = endTurn e line room
 lineTurn m Passed line room = turn (On m) room
 lineTurn m TooLong line room = turn (Refused 0 line) room
-lineTurn m (Not kind) line room = turn (Refused 0 line) room
+lineTurn m (Not kind field) line room = turn (Refused 0 line) room
 
 -- 2 comes before 0
 unfoldable pub turnOf : Making → Line → ℕ → List ℕ → Turn

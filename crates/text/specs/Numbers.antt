@@ -1,6 +1,6 @@
 -- The text form (docs/TEXT.md): a field of a line, and the number that it makes.
-use Prim.Native.Nat.{ℕ, _+_, _*_, _-_}
-use mathlib.Core.Bool.{Bool, true, false, _&&_}
+use Prim.Native.Nat.{ℕ, suc, _+_, _*_, _-_}
+use mathlib.Core.Bool.{Bool, true, false, _&&_, _||_}
 use mathlib.Core.List.{List, [], _∷_}
 use lib.Dec.{leb, ltb, eqb}
 use lib.ListN.{length, getD, drop}
@@ -30,34 +30,32 @@ sizeFrom n s = pick (allDigits s && leb (numberFrom n s) 4294967295) (Is (number
 unfoldable pub sizeOf : List ℕ → Size
 sizeOf s = pick (ltb 0 (length s)) (sizeFrom 0 s) No
 
--- the bytes up to the next space
+-- a space or a tab
+abbrev pub isBlank : ℕ → Bool
+isBlank b = eqb b 32 || eqb b 9
+
+-- how many blanks stand at the front
+unfoldable pub blanks : List ℕ → ℕ
+blanks [] = 0
+blanks (b ∷ s) = pick (isBlank b) (suc (blanks s)) 0
+
+-- the bytes up to the next blank
 unfoldable pub fieldOf : List ℕ → List ℕ
 fieldOf [] = []
-fieldOf (b ∷ s) = pick (eqb b 32) [] (b ∷ fieldOf s)
+fieldOf (b ∷ s) = pick (isBlank b) [] (b ∷ fieldOf s)
 
 -- whether a field starts with '-'
 abbrev pub minus : List ℕ → Bool
 minus s = eqb (getD s 0 0) 45
 
--- the place after a field that is not there: no text has it, so neither does any field after it stand there
-abbrev pub nowhere : ℕ
-nowhere = 18446744073709551615
-
--- no number, and no place after it
+-- no whole number
 abbrev pub noWhole : Whole
-noWhole = record { negative = false; size = 0; next = nowhere }
+noWhole = record { negative = false; size = 0; good = false }
 
--- the number of a size, below zero or not, and the place after it
-abbrev pub wholeOf : Bool → Size → ℕ → Whole
-wholeOf below (Is n) next = record { negative = below && ltb 0 n; size = n; next = next }
-wholeOf below No next = noWhole
+-- the number of a size, below zero or not
+abbrev pub wholeOf : Bool → Size → Whole
+wholeOf below (Is n) = record { negative = below && ltb 0 n; size = n; good = true }
+wholeOf below No = noWhole
 
-unfoldable pub numberIn : List ℕ → ℕ → Whole
-numberIn field next = pick (minus field) (wholeOf true (sizeOf (drop 1 field)) next) (wholeOf false (sizeOf field) next)
-
--- the number of the field after the space at a place
-unfoldable pub numberAt : List ℕ → ℕ → Whole
-numberAt text at =
-    pick (ltb at (length text) && eqb (getD text at 0) 32)
-    (numberIn (fieldOf (drop (at + 1) text)) (at + 1 + length (fieldOf (drop (at + 1) text))))
-    noWhole
+unfoldable pub numberIn : List ℕ → Whole
+numberIn field = pick (minus field) (wholeOf true (sizeOf (drop 1 field))) (wholeOf false (sizeOf field))

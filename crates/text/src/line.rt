@@ -1,13 +1,20 @@
 // What a line is: its word, and the record that its fields make.
 ghost use mathlib.Core.Path.{_≡_};
+ghost use mathlib.Core.Bool.{true, _&&_};
 ghost use Prim.Native.Nat.{_≤_};
+ghost use lib.Dec.{eqb};
 ghost use lib.ListN.{length};
-ghost use Rattle.text.specs.Line.{same, dayOf, groupOf, unitOf, endOf, fieldsOf, recordOf, bareLength, lineOf};
+ghost use Rattle.text.specs.Line.{same, dayOf, groupOf, unitOf, endOf, fieldsOf, recordOf, uncommented, bareLength, bareOf, markLength, lineOf};
+use crate::fields::Field;
+use crate::fields::day_at;
+use crate::fields::field_at;
 use crate::fields::i32_at;
+use crate::fields::minute_at;
+use crate::fields::over_at;
 use crate::fields::u8_at;
 use crate::fields::u16_at;
 use crate::fields::u32_at;
-use crate::numbers_in::field_end;
+use crate::numbers_in::is_blank;
 use records::day::DayRecord;
 use records::end::EndRecord;
 use records::group::GroupRecord;
@@ -15,8 +22,11 @@ use records::unit::UnitRecord;
 use terms::quantity::Nomination;
 use terms::quantity::Position;
 
-// The most bytes of a line that is no comment.
+// The most bytes of a line in front of its comment.
 pub const LONGEST: usize = 255;
+
+// The length of the byte order mark.
+pub const MARK: usize = 3;
 
 const CARRIAGE_RETURN: u8 = 13;
 
@@ -30,9 +40,9 @@ pub enum Line {
     End(EndRecord),
     // Empty, or a comment.
     Passed,
-    // Not in the form: above the most bytes; or after the word of a record of this kind, 0 where it is no record's.
+    // Not in the form: above the most bytes; or a field is wrong after the word of a record of this kind, 0 where it is no record's.
     TooLong,
-    Not(u8),
+    Not(u8, Field),
 }
 
 fn is_same(a: &[u8], b: &[u8]) -> bool
@@ -51,17 +61,18 @@ fn is_same(a: &[u8], b: &[u8]) -> bool
     true
 }
 
-// Each field starts where the one before it ends, and the last has to end where the text does.
-fn day_in(text: &[u8], at: usize) -> Line
-    ensures { λ r. ⌜ r ≡ dayOf (now (text .entry)) at ⌝ }
+// Each field starts where the one before it ends, and after the last stands nothing.
+fn day_in(text: &[u8], word: Field) -> Line
+    ensures { λ r. ⌜ r ≡ dayOf (now (text .entry)) word ⌝ }
 {
-    let day = u16_at(text, at);
-    let quarters = u8_at(text, day.next);
-    let run = u32_at(text, quarters.next);
-    let position_limit = u16_at(text, run.next);
-    let margin_limit = u16_at(text, position_limit.next);
-    if margin_limit.next != text.len() {
-        return Line::Not(DayRecord::KIND);
+    let day = day_at(text, 1, word);
+    let quarters = u8_at(text, 2, day.field);
+    let run = minute_at(text, 3, quarters.field);
+    let position_limit = u16_at(text, 4, run.field);
+    let margin_limit = u16_at(text, 5, position_limit.field);
+    let last = over_at(text, 6, margin_limit.field);
+    if !last.good {
+        return Line::Not(DayRecord::KIND, last);
     }
     Line::Day(DayRecord::new(
         day.value,
@@ -72,16 +83,17 @@ fn day_in(text: &[u8], at: usize) -> Line
     ))
 }
 
-fn group_in(text: &[u8], at: usize) -> Line
-    ensures { λ r. ⌜ r ≡ groupOf (now (text .entry)) at ⌝ }
+fn group_in(text: &[u8], word: Field) -> Line
+    ensures { λ r. ⌜ r ≡ groupOf (now (text .entry)) word ⌝ }
 {
-    let brp = u16_at(text, at);
-    let zone = u8_at(text, brp.next);
-    let quarter = u8_at(text, zone.next);
-    let count = u8_at(text, quarter.next);
-    let made = u32_at(text, count.next);
-    if made.next != text.len() {
-        return Line::Not(GroupRecord::KIND);
+    let brp = u16_at(text, 1, word);
+    let zone = u8_at(text, 2, brp.field);
+    let quarter = u8_at(text, 3, zone.field);
+    let count = u8_at(text, 4, quarter.field);
+    let made = minute_at(text, 5, count.field);
+    let last = over_at(text, 6, made.field);
+    if !last.good {
+        return Line::Not(GroupRecord::KIND, last);
     }
     Line::Group(GroupRecord::new(
         brp.value,
@@ -92,20 +104,21 @@ fn group_in(text: &[u8], at: usize) -> Line
     ))
 }
 
-fn unit_in(text: &[u8], at: usize) -> Line
-    ensures { λ r. ⌜ r ≡ unitOf (now (text .entry)) at ⌝ }
+fn unit_in(text: &[u8], word: Field) -> Line
+    ensures { λ r. ⌜ r ≡ unitOf (now (text .entry)) word ⌝ }
 {
-    let number = u16_at(text, at);
-    let class = u8_at(text, number.next);
-    let coincide = u8_at(text, class.next);
-    let nominated = u8_at(text, coincide.next);
-    let n = i32_at(text, nominated.next);
-    let pc = i32_at(text, n.next);
-    let step_down = i32_at(text, pc.next);
-    let step_up = i32_at(text, step_down.next);
-    let made = u32_at(text, step_up.next);
-    if made.next != text.len() {
-        return Line::Not(UnitRecord::KIND);
+    let number = u16_at(text, 1, word);
+    let class = u8_at(text, 2, number.field);
+    let coincide = u8_at(text, 3, class.field);
+    let nominated = u8_at(text, 4, coincide.field);
+    let n = i32_at(text, 5, nominated.field);
+    let pc = i32_at(text, 6, n.field);
+    let step_down = i32_at(text, 7, pc.field);
+    let step_up = i32_at(text, 8, step_down.field);
+    let made = minute_at(text, 9, step_up.field);
+    let last = over_at(text, 10, made.field);
+    if !last.good {
+        return Line::Not(UnitRecord::KIND, last);
     }
     Line::Unit(UnitRecord::new(
         number.value,
@@ -120,44 +133,74 @@ fn unit_in(text: &[u8], at: usize) -> Line
     ))
 }
 
-fn end_in(text: &[u8], at: usize) -> Line
-    ensures { λ r. ⌜ r ≡ endOf (now (text .entry)) at ⌝ }
+fn end_in(text: &[u8], word: Field) -> Line
+    ensures { λ r. ⌜ r ≡ endOf (now (text .entry)) word ⌝ }
 {
-    let groups = u32_at(text, at);
-    if groups.next != text.len() {
-        return Line::Not(EndRecord::KIND);
+    let groups = u32_at(text, 1, word);
+    let last = over_at(text, 2, groups.field);
+    if !last.good {
+        return Line::Not(EndRecord::KIND, last);
     }
     Line::End(EndRecord::new(groups.value))
 }
 
-// The record that a word begins, its fields from a place on.
-fn fields_in(word: &[u8], text: &[u8], at: usize) -> Line
-    ensures { λ r. ⌜ r ≡ fieldsOf (now (word .entry)) (now (text .entry)) at ⌝ }
+// The record that a word begins.
+fn fields_in(name: &[u8], text: &[u8], word: Field) -> Line
+    ensures { λ r. ⌜ r ≡ fieldsOf (now (name .entry)) (now (text .entry)) word ⌝ }
 {
-    if is_same(word, b"UNIT") {
-        return unit_in(text, at);
+    if is_same(name, b"UNIT") {
+        return unit_in(text, word);
     }
-    if is_same(word, b"GROUP") {
-        return group_in(text, at);
+    if is_same(name, b"GROUP") {
+        return group_in(text, word);
     }
-    if is_same(word, b"DAY") {
-        return day_in(text, at);
+    if is_same(name, b"DAY") {
+        return day_in(text, word);
     }
-    if is_same(word, b"END") {
-        return end_in(text, at);
+    if is_same(name, b"END") {
+        return end_in(text, word);
     }
-    Line::Not(NO_KIND)
+    Line::Not(NO_KIND, word.spoilt())
 }
 
 // A word, and then the fields of its record.
 fn record_in(text: &[u8]) -> Line
     ensures { λ r. ⌜ r ≡ recordOf (now (text .entry)) ⌝ }
 {
-    if text.len() == 0 {
+    let word = field_at(text, 0, 0);
+    if word.start == text.len() {
         return Line::Passed;
     }
-    let end = field_end(text, 0);
-    fields_in(&text[..end], text, end)
+    let start = word.start;
+    let end = word.end;
+    fields_in(&text[start..end], text, word)
+}
+
+// Whether a comment begins: at the front or after a blank.
+fn is_comment(fresh: bool, byte: u8) -> bool
+    ensures { λ r. ⌜ r ≡ fresh && eqb byte 35 ⌝ }
+{
+    if !fresh {
+        return false;
+    }
+    byte == b'#'
+}
+
+// The length of a line in front of its comment.
+fn uncommented_length(line: &[u8]) -> usize
+    ensures { λ r. ⌜ r ≡ length (uncommented true (now (line .entry))) ⌝ }
+{
+    let mut fresh = true;
+    let mut i = 0;
+    while i < line.len() {
+        let byte = line[i];
+        if is_comment(fresh, byte) {
+            return i;
+        }
+        fresh = is_blank(byte);
+        i += 1;
+    }
+    i
 }
 
 // The length of a line without the carriage return that it may end in.
@@ -174,19 +217,45 @@ fn bare_length(line: &[u8]) -> usize
     length
 }
 
-// What a line is, without the line feed that ends it.
-pub fn line_in(line: &[u8]) -> Line
-    ensures { λ r. ⌜ r ≡ lineOf (now (line .entry)) ⌝ }
+// A line without its comment.
+fn bare_in(text: &[u8]) -> Line
+    ensures { λ r. ⌜ r ≡ bareOf (now (text .entry)) ⌝ }
 {
-    if line.len() == 0 {
-        return Line::Passed;
-    }
-    if line[0] == b'#' {
-        return Line::Passed;
-    }
-    if LONGEST < line.len() {
+    if LONGEST < text.len() {
         return Line::TooLong;
     }
-    let end = bare_length(line);
-    record_in(&line[..end])
+    let end = bare_length(text);
+    record_in(&text[..end])
+}
+
+// The length of the byte order mark, which may stand at the front of the text alone.
+fn mark_length(line: &[u8], number: u64) -> usize
+    ensures { λ r. ⌜ (r ≡ markLength (now (line .entry)) number) × (r ≤ length (now (line .entry))) ⌝ }
+{
+    if number != 1 {
+        return 0;
+    }
+    if line.len() < MARK {
+        return 0;
+    }
+    if is_same(&line[..MARK], b"\xEF\xBB\xBF") {
+        return MARK;
+    }
+    0
+}
+
+// A line without the mark in front of it.
+fn unmarked_in(line: &[u8]) -> Line
+    ensures { λ r. ⌜ r ≡ bareOf (uncommented true (now (line .entry))) ⌝ }
+{
+    let end = uncommented_length(line);
+    bare_in(&line[..end])
+}
+
+// What a line is, by its bytes without the line feed that ends it, and its number.
+pub fn line_in(line: &[u8], number: u64) -> Line
+    ensures { λ r. ⌜ r ≡ lineOf (now (line .entry)) number ⌝ }
+{
+    let from = mark_length(line, number);
+    unmarked_in(&line[from..])
 }

@@ -227,7 +227,7 @@ impl Making {
             Line::End(_) => self.is_due(EndRecord::KIND),
             Line::Passed => true,
             Line::TooLong => !self.is_over(),
-            Line::Not(kind) => self.is_due(kind),
+            Line::Not(kind, _) => self.is_due(kind),
         }
     }
 
@@ -242,7 +242,7 @@ impl Making {
             Line::End(e) => end(e, line, room),
             Line::Passed => Made::On(self),
             Line::TooLong => Made::Refused(0, line),
-            Line::Not(_) => Made::Refused(0, line),
+            Line::Not(_, _) => Made::Refused(0, line),
         }
     }
 

@@ -3,15 +3,12 @@ ghost use mathlib.Core.Path.{_≡_};
 ghost use mathlib.Core.Bool.{true};
 ghost use Prim.Native.Nat.{_+_, _-_, _≤_};
 ghost use lib.ListN.{length, drop};
-ghost use Rattle.text.specs.Numbers.{isDigit, sizeOf, minus, fieldOf, noWhole, numberIn, numberAt};
+ghost use Rattle.text.specs.Numbers.{isDigit, sizeOf, isBlank, blanks, fieldOf, minus, noWhole, numberIn};
 
-const SPACE: u8 = b' ';
+const TAB: u8 = 9;
 
 // No field is larger.
 const LARGEST: u64 = 4294967295;
-
-// The place after a field that is not there; nothing stands at it, so neither does any field after it.
-pub const NOWHERE: usize = usize::MAX;
 
 // What digits come to.
 pub enum Size {
@@ -19,20 +16,20 @@ pub enum Size {
     No,
 }
 
-// A number by sign and size, and the place after it.
+// A number by sign and size, and whether it is one.
 pub struct Whole {
     pub negative: bool,
     pub size: u64,
-    pub next: usize,
+    pub good: bool,
 }
 
-fn none() -> Whole
+pub fn none() -> Whole
     ensures { λ r. ⌜ r ≡ noWhole ⌝ }
 {
     Whole {
         negative: false,
         size: 0,
-        next: NOWHERE,
+        good: false,
     }
 }
 
@@ -53,7 +50,7 @@ fn digit(byte: u8) -> u64
 }
 
 // The number that one digit or more make, unless it is above the largest.
-fn size_of(digits: &[u8]) -> Size
+pub fn size_of(digits: &[u8]) -> Size
     ensures { λ r. ⌜ r ≡ sizeOf (now (digits .entry)) ⌝ }
 {
     if digits.len() == 0 {
@@ -75,13 +72,32 @@ fn size_of(digits: &[u8]) -> Size
     Size::Is(size)
 }
 
-// The place of the next space, or the end of the text.
+pub fn is_blank(byte: u8) -> bool
+    ensures { λ r. ⌜ r ≡ isBlank byte ⌝ }
+{
+    if byte == b' ' {
+        return true;
+    }
+    byte == TAB
+}
+
+// The place behind the blanks at a place.
+pub fn after_blanks(text: &[u8], from: usize) -> usize
+    ensures { λ r. ⌜ r ≡ from + blanks (drop from (now (text .entry))) ⌝ }
+{
+    let mut start = from;
+    while start < text.len() && is_blank(text[start]) {
+        start += 1;
+    }
+    start
+}
+
+// The place of the next blank, or the end of the text.
 pub fn field_end(text: &[u8], from: usize) -> usize
-    requires { ⌜ from ≤ length (now text) ⌝ }
-    ensures { λ r. ⌜ (r ≡ from + length (fieldOf (drop from (now (text .entry))))) × (r ≤ length (now (text .entry))) ⌝ }
+    ensures { λ r. ⌜ r ≡ from + length (fieldOf (drop from (now (text .entry)))) ⌝ }
 {
     let mut end = from;
-    while end < text.len() && text[end] != SPACE {
+    while end < text.len() && !is_blank(text[end]) {
         end += 1;
     }
     end
@@ -96,9 +112,9 @@ fn is_negative(field: &[u8]) -> bool
     field[0] == b'-'
 }
 
-// A whole field as a number, before the place given.
-fn number_in(field: &[u8], next: usize) -> Whole
-    ensures { λ r. ⌜ r ≡ numberIn (now (field .entry)) next ⌝ }
+// A whole field as a number.
+pub fn number_in(field: &[u8]) -> Whole
+    ensures { λ r. ⌜ r ≡ numberIn (now (field .entry)) ⌝ }
 {
     if is_negative(field) {
         let Size::Is(size) = size_of(&field[1..]) else {
@@ -107,7 +123,7 @@ fn number_in(field: &[u8], next: usize) -> Whole
         return Whole {
             negative: 0 < size,
             size,
-            next,
+            good: true,
         };
     }
     let Size::Is(size) = size_of(field) else {
@@ -116,21 +132,6 @@ fn number_in(field: &[u8], next: usize) -> Whole
     Whole {
         negative: false,
         size,
-        next,
+        good: true,
     }
-}
-
-// The number after the space at a place.
-pub fn number_at(text: &[u8], at: usize) -> Whole
-    ensures { λ r. ⌜ r ≡ numberAt (now (text .entry)) at ⌝ }
-{
-    if text.len() <= at {
-        return none();
-    }
-    if text[at] != SPACE {
-        return none();
-    }
-    let first = at + 1;
-    let end = field_end(text, first);
-    number_in(&text[first..end], end)
 }

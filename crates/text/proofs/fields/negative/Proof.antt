@@ -12,23 +12,26 @@ use borrow.Author.Needs.{needs}
 use Rattle.text.proofs.fields.negative.Statement.{statement}
 use Rattle.text.proofs.fields.negative.Tie as tie
 
+spoilt-requires : tie.Need-spoilt-requires
+spoilt-requires c κs = search needs
+
 no-kwh-requires : tie.Need-no-kwh-requires
 no-kwh-requires c κs = search needs
 
 returns : tie.Need-returns
-returns c = simp (c .no-kwh .ensures, lt-leb _ _ (c .before .if1 .taken))
+returns c = rw (c .no-kwh .ensures, c .before .spoilt .ensures, lt-leb _ _ (c .before .before .if1 .taken))
 
-cast-t4 : tie.Need-cast-t4
-cast-t4 c = search needs
+cast-t5 : tie.Need-cast-t5
+cast-t5 c = search needs
 
-sub-t5 : tie.Need-sub-t5
-sub-t5 c =
+sub-t6 : tie.Need-sub-t6
+sub-t6 c =
     let size = c .before .args .size in
     let h : size < 2 ^ hbits w64 = omega arith in
     simp (toZ-pos w64) (omega (zarith, minus (pos 0) (pos size)))
 
-cast-t6 : tie.Need-cast-t6
-cast-t6 c =
+cast-t7 : tie.Need-cast-t7
+cast-t7 c =
     let size = c .before .args .size in
     let h : size < 2 ^ hbits w64 = omega arith in
     let k : SFits w64 (pos 0 -ℤ pos size) = omega (zarith, minus (pos 0) (pos size)) in
@@ -44,4 +47,5 @@ returns-2 c =
     simp (toZ-pos w64, toZ-ofZ, le-leb _ _ (c .if1 .left)) (rw e)
 
 pub negative-spec : {M : Type 1} → statement M
-negative-spec = tie.close (tie.spec no-kwh-requires returns cast-t4 sub-t5 cast-t6 returns-2)
+negative-spec =
+    tie.close (tie.spec spoilt-requires no-kwh-requires returns cast-t5 sub-t6 cast-t7 returns-2)

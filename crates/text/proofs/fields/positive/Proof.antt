@@ -9,14 +9,17 @@ use borrow.Author.Needs.{needs}
 use Rattle.text.proofs.fields.positive.Statement.{statement}
 use Rattle.text.proofs.fields.positive.Tie as tie
 
+spoilt-requires : tie.Need-spoilt-requires
+spoilt-requires c κs = search needs
+
 no-kwh-requires : tie.Need-no-kwh-requires
 no-kwh-requires c κs = search needs
 
 returns : tie.Need-returns
-returns c = simp (c .no-kwh .ensures, lt-leb _ _ (c .before .if1 .taken))
+returns c = rw (c .no-kwh .ensures, c .before .spoilt .ensures, lt-leb _ _ (c .before .before .if1 .taken))
 
-cast-t4 : tie.Need-cast-t4
-cast-t4 c = search needs
+cast-t5 : tie.Need-cast-t5
+cast-t5 c = search needs
 
 returns-2 : tie.Need-returns-2
 returns-2 c =
@@ -24,4 +27,4 @@ returns-2 c =
     simp (toZ-pos w32, le-leb _ _ (c .if1 .left))
 
 pub positive-spec : {M : Type 1} → statement M
-positive-spec = tie.close (tie.spec no-kwh-requires returns cast-t4 returns-2)
+positive-spec = tie.close (tie.spec spoilt-requires no-kwh-requires returns cast-t5 returns-2)

@@ -81,10 +81,13 @@ returns-4 c =
     let e4 = sym (w4 .before .is-same4 .ensures) ∙ w4 .if4 .taken in
     rw (e1, e2, e3, e4) (c .end-in .ensures)
 
+spoilt-requires : tie.Need-spoilt-requires
+spoilt-requires c κs = search needs
+
 returns-5 : tie.Need-returns-5
 unfolding fieldsOf
 returns-5 c =
-    let w4 = c in
+    let w4 = c .before in
     let w3 = w4 .before .before .before in
     let w2 = w3 .before .before .before in
     let w1 = w2 .before .before .before in
@@ -92,7 +95,7 @@ returns-5 c =
     let e2 = sym (w2 .before .is-same2 .ensures) ∙ w2 .if2 .left in
     let e3 = sym (w3 .before .is-same3 .ensures) ∙ w3 .if3 .left in
     let e4 = sym (w4 .before .is-same4 .ensures) ∙ w4 .if4 .left in
-    rw (e1, e2, e3, e4)
+    rw (c .spoilt .ensures, e1, e2, e3, e4)
 
 pub fields-in-spec : {M : Type 1} → statement M
 fields-in-spec =
@@ -114,4 +117,5 @@ fields-in-spec =
     is-same-requires-4
     end-in-requires
     returns-4
+    spoilt-requires
     returns-5)

@@ -1,5 +1,5 @@
 -- Each field is read where the one before it ends, and the last test is that of the end.
-use borrow.Author.Tests.{ne-eqb, eq-eqb}
+use borrow.Author.Tests.{not-true, not-false}
 use Rattle.text.specs.Line.{groupOf}
 use borrow.Author.Needs.{needs}
 use Rattle.text.proofs.line.group_in.Statement.{statement}
@@ -17,18 +17,22 @@ u8-at-requires-2 c κs = search needs
 u8-at-requires-3 : tie.Need-u8-at-requires-3
 u8-at-requires-3 c κs = search needs
 
-u32-at-requires : tie.Need-u32-at-requires
-u32-at-requires c κs = search needs
+minute-at-requires : tie.Need-minute-at-requires
+minute-at-requires c κs = search needs
+
+over-at-requires : tie.Need-over-at-requires
+over-at-requires c κs = search needs
 
 returns : tie.Need-returns
 unfolding groupOf
 returns c =
-    let r5 = c .before .before in
+    let last = c .before .before in
+    let r5 = last .before in
     let r4 = r5 .before in
     let r3 = r4 .before in
     let r2 = r3 .before in
     let r1 = r2 .before in
-    rw (← (r1 .u16-at .ensures), ← (r2 .u8-at .ensures), ← (r3 .u8-at2 .ensures), ← (r4 .u8-at3 .ensures), ← (r5 .u32-at .ensures), ne-eqb _ _ (c .if1 .taken))
+    rw (← (r1 .u16-at .ensures), ← (r2 .u8-at .ensures), ← (r3 .u8-at2 .ensures), ← (r4 .u8-at3 .ensures), ← (r5 .minute-at .ensures), ← (last .over-at .ensures), not-true (last .over-at .result .good) (c .if1 .taken))
 
 new-requires : tie.Need-new-requires
 new-requires c κs = search needs
@@ -36,12 +40,13 @@ new-requires c κs = search needs
 returns-2 : tie.Need-returns-2
 unfolding groupOf
 returns-2 c =
-    let r5 = c .before .before .before in
+    let last = c .before .before .before in
+    let r5 = last .before in
     let r4 = r5 .before in
     let r3 = r4 .before in
     let r2 = r3 .before in
     let r1 = r2 .before in
-    rw (← (r1 .u16-at .ensures), ← (r2 .u8-at .ensures), ← (r3 .u8-at2 .ensures), ← (r4 .u8-at3 .ensures), ← (r5 .u32-at .ensures), eq-eqb _ _ (c .before .if1 .left)) (rw (c .new .ensures))
+    rw (← (r1 .u16-at .ensures), ← (r2 .u8-at .ensures), ← (r3 .u8-at2 .ensures), ← (r4 .u8-at3 .ensures), ← (r5 .minute-at .ensures), ← (last .over-at .ensures), not-false (last .over-at .result .good) (c .before .if1 .left)) (rw (c .new .ensures))
 
 pub group-in-spec : {M : Type 1} → statement M
 group-in-spec =
@@ -51,7 +56,8 @@ group-in-spec =
     u8-at-requires
     u8-at-requires-2
     u8-at-requires-3
-    u32-at-requires
+    minute-at-requires
+    over-at-requires
     returns
     new-requires
     returns-2)

@@ -3,7 +3,7 @@ use mathlib.Core.Path.{ap}
 use mir.ValLaws.{toZ-ofZ}
 use mir.Syntax.{w32}
 use Rattle.text.specs.declared.line.Line.the-variants.{Unit}
-use borrow.Author.Tests.{ne-eqb, eq-eqb}
+use borrow.Author.Tests.{not-true, not-false}
 use Rattle.text.specs.Line.{unitOf}
 use borrow.Author.Needs.{needs}
 use Rattle.text.proofs.line.unit_in.Statement.{statement}
@@ -33,13 +33,17 @@ i32-at-requires-3 c κs = search needs
 i32-at-requires-4 : tie.Need-i32-at-requires-4
 i32-at-requires-4 c κs = search needs
 
-u32-at-requires : tie.Need-u32-at-requires
-u32-at-requires c κs = search needs
+minute-at-requires : tie.Need-minute-at-requires
+minute-at-requires c κs = search needs
+
+over-at-requires : tie.Need-over-at-requires
+over-at-requires c κs = search needs
 
 returns : tie.Need-returns
 unfolding unitOf
 returns c =
-    let r9 = c .before .before in
+    let last = c .before .before in
+    let r9 = last .before in
     let r8 = r9 .before in
     let r7 = r8 .before in
     let r6 = r7 .before in
@@ -48,7 +52,7 @@ returns c =
     let r3 = r4 .before in
     let r2 = r3 .before in
     let r1 = r2 .before in
-    rw (← (r1 .u16-at .ensures), ← (r2 .u8-at .ensures), ← (r3 .u8-at2 .ensures), ← (r4 .u8-at3 .ensures), ← (r5 .i32-at .ensures), ← (r6 .i32-at2 .ensures), ← (r7 .i32-at3 .ensures), ← (r8 .i32-at4 .ensures), ← (r9 .u32-at .ensures), ne-eqb _ _ (c .if1 .taken))
+    rw (← (r1 .u16-at .ensures), ← (r2 .u8-at .ensures), ← (r3 .u8-at2 .ensures), ← (r4 .u8-at3 .ensures), ← (r5 .i32-at .ensures), ← (r6 .i32-at2 .ensures), ← (r7 .i32-at3 .ensures), ← (r8 .i32-at4 .ensures), ← (r9 .minute-at .ensures), ← (last .over-at .ensures), not-true (last .over-at .result .good) (c .if1 .taken))
 
 new-requires : tie.Need-new-requires
 new-requires c κs = search needs
@@ -56,8 +60,8 @@ new-requires c κs = search needs
 returns-2 : tie.Need-returns-2
 unfolding unitOf
 returns-2 c =
-    let test = c .before .before .before .before .before in
-    let r9 = test .before .before in
+    let last = c .before .before .before .before .before .before .before in
+    let r9 = last .before in
     let r8 = r9 .before in
     let r7 = r8 .before in
     let r6 = r7 .before in
@@ -66,7 +70,7 @@ returns-2 c =
     let r3 = r4 .before in
     let r2 = r3 .before in
     let r1 = r2 .before in
-    rw (← (r1 .u16-at .ensures), ← (r2 .u8-at .ensures), ← (r3 .u8-at2 .ensures), ← (r4 .u8-at3 .ensures), ← (r5 .i32-at .ensures), ← (r6 .i32-at2 .ensures), ← (r7 .i32-at3 .ensures), ← (r8 .i32-at4 .ensures), ← (r9 .u32-at .ensures), eq-eqb _ _ (test .if1 .left))
+    rw (← (r1 .u16-at .ensures), ← (r2 .u8-at .ensures), ← (r3 .u8-at2 .ensures), ← (r4 .u8-at3 .ensures), ← (r5 .i32-at .ensures), ← (r6 .i32-at2 .ensures), ← (r7 .i32-at3 .ensures), ← (r8 .i32-at4 .ensures), ← (r9 .minute-at .ensures), ← (last .over-at .ensures), not-false (last .over-at .result .good) (c .before .before .before .before .before .if1 .left))
     (let t4 = c .before in
     let t3 = t4 .before in
     let t2 = t3 .before in
@@ -89,7 +93,8 @@ unit-in-spec =
     i32-at-requires-2
     i32-at-requires-3
     i32-at-requires-4
-    u32-at-requires
+    minute-at-requires
+    over-at-requires
     returns
     new-requires
     returns-2)

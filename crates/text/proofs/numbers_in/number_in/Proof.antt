@@ -3,7 +3,7 @@ use mathlib.Core.Path.{sym, ap, _∙_}
 use denote.Ref.{now}
 use Rattle.text.specs.Numbers.{sizeOf, numberIn}
 use Rattle.text.proofs.Digits.{minus-long}
-use Rattle.text.proofs.Spaces.{after-first}
+use Rattle.text.proofs.Spaces.{all-after}
 use borrow.Author.Needs.{needs}
 use Rattle.text.proofs.numbers_in.number_in.Statement.{statement}
 use Rattle.text.proofs.numbers_in.number_in.Tie as tie
@@ -43,7 +43,7 @@ returns c =
     let size-of = c .before .before .before in
     let is-negative = size-of .before .before .before in
     let m = sym (is-negative .is-negative .ensures) ∙ size-of .before .before .if1 .taken in
-    let z = ap sizeOf (sym (after-first (now (is-negative .before .before .args .field)))) ∙ sym (size-of .size-of .ensures) ∙ c .before .enum-told .given .1 in
+    let z = ap sizeOf (sym (all-after (now (is-negative .before .before .args .field)) 1)) ∙ sym (size-of .size-of .ensures) ∙ c .before .enum-told .given .1 in
     rw (c .none .ensures, m, z)
 
 returns-2 : tie.Need-returns-2
@@ -52,7 +52,7 @@ returns-2 c =
     let size-of = c .before .before .before in
     let is-negative = size-of .before .before .before in
     let m = sym (is-negative .is-negative .ensures) ∙ size-of .before .before .if1 .taken in
-    let z = ap sizeOf (sym (after-first (now (is-negative .before .before .args .field)))) ∙ sym (size-of .size-of .ensures) ∙ c .before .size .given .1 in
+    let z = ap sizeOf (sym (all-after (now (is-negative .before .before .args .field)) 1)) ∙ sym (size-of .size-of .ensures) ∙ c .before .size .given .1 in
     rw (m, z)
 
 size-of-requires-2 : tie.Need-size-of-requires-2

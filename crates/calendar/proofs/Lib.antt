@@ -1,0 +1,6 @@
+-- Laws of the calendar.
+pub mod Begun
+pub mod Lengths
+pub mod Valid
+pub mod Trips
+pub mod Figures

@@ -1,0 +1,2 @@
+-- The Gregorian calendar.
+pub mod Calendar
