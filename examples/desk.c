@@ -45,11 +45,39 @@ static uint32_t number_at(const uint8_t *at, int bytes)
     return number;
 }
 
+/* The number of the unit that a refusal of the block speaks of, or -1: the last of the shortest beginning of the block which is
+ * refused alike. It leaves the block with another unit count. */
+static long unit_of(const uint8_t *day, uint8_t *block, int32_t reply)
+{
+    uint8_t room[FLEHWELLA_RESULT_MAX];
+    const int units = block[5];
+    if (reply > -FLEHWELLA_UNIT_NUMBER || reply < -FLEHWELLA_MARGIN_AGE || reply == -FLEHWELLA_POSITION_AGE)
+        return -1;
+    for (block[5] = 1; block[5] < units; block[5]++)
+        if (flehwella_check(day, FLEHWELLA_DAY_LENGTH, block, FLEHWELLA_BLOCK_LENGTH(block[5]), room, sizeof room) == reply)
+            break;
+    return (long)number_at(block + FLEHWELLA_BLOCK_LENGTH(block[5] - 1) + 1, 2);
+}
+
 /* Two's complement, with no step that C leaves to the compiler. */
 static int32_t signed_at(const uint8_t *at)
 {
     const uint32_t bits = number_at(at, 4);
     return bits <= INT32_MAX ? (int32_t)bits : -1 - (int32_t)(UINT32_MAX - bits);
+}
+
+static void print_refusal(const uint8_t *day, size_t day_length, uint8_t *block, int32_t reply)
+{
+    printf("REFUSED %ld of the ", (long)-reply);
+    if (is_of_the_day(day, day_length)) {
+        printf("day");
+    } else {
+        const long unit = unit_of(day, block, reply);
+        printf("block");
+        if (unit >= 0)
+            printf(", unit %ld", unit);
+    }
+    printf(": %s\n", sentence(-reply));
 }
 
 static void print_fields(const uint8_t *at, int count)
@@ -99,7 +127,7 @@ int main(int words, char **word)
         return 2;
     const int32_t reply = flehwella_check(day, day_length, block, block_length, room, sizeof room);
     if (reply < 0)
-        printf("REFUSED %ld of the %s: %s\n", (long)-reply, is_of_the_day(day, day_length) ? "day" : "block", sentence(-reply));
+        print_refusal(day, day_length, block, reply);
     else
         print_result(room);
     if (fflush(stdout) != 0) {

@@ -88,7 +88,9 @@ enum flehwella_refusal {
  * Gives back the length written, FLEHWELLA_RESULT_LENGTH(units), or minus the number of a refusal; never 0.
  *
  * The day is what was refused where day_length is below FLEHWELLA_DAY_LENGTH, or where the same day with a block_length of 0
- * gives another reply than -FLEHWELLA_CUT_SHORT; else it is the block.
+ * gives another reply than -FLEHWELLA_CUT_SHORT; else it is the block. A refusal from 6 to 9, or 11, speaks of one unit: of
+ * the k-th, for the least k with which the block cut to its first k units (its byte 5, the unit count, is k, and its length
+ * FLEHWELLA_BLOCK_LENGTH(k)) is refused by the same number.
  *
  * Accepted: the first bytes of the room, as many as the reply says, are the result, and the room beyond them is untouched.
  * Refused: the whole room is untouched. Room for FLEHWELLA_RESULT_MAX bytes fits any result.
