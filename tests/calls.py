@@ -6,8 +6,9 @@ import re
 import definitions
 from definitions import ROOT, crates
 
-# A definition that so many others stand between it and a contract still counts as named by it.
+# How many steps behind what a contract names a definition may stand: each step goes to what a definition names.
 STEPS = 2
+CONSTANT = re.compile(r"\b((?:[A-Z]\w*[a-z]\w*::)?[A-Z][A-Z0-9_]*)\b")
 
 
 def libraries():
@@ -17,7 +18,7 @@ def libraries():
 class Function:
     """A function: its whole name, where it stands, its clauses and its body, and whether another crate can call it."""
 
-    def __init__(self, crate, path, kind, text, start, public):
+    def __init__(self, crate, path, kind, text, public):
         self.crate, self.file, self.public = crate, f"src/{path.name}", public
         self.short = re.match(r".*?\bfn (\w+)", text).group(1)
         module = [path.stem] * (path.stem not in ("lib", "main"))
@@ -25,8 +26,7 @@ class Function:
         indent = re.match(r" *", text).group()
         body = re.search(r"\{$", text, re.M)
         ended = re.search(rf"^{indent}\}}$", text, re.M)
-        self.start, self.end = start, start + (ended.end() if ended else len(text))
-        self.clauses, self.body = text[: body.start()], text[body.end() : self.end - start]
+        self.clauses, self.body = text[: body.start()], text[body.end() : ended.end() if ended else len(text)]
 
     def asks(self):
         """The clauses that a caller must meet."""
@@ -45,7 +45,7 @@ def functions(crate):
 
 def functions_in(crate, path, text):
     """The functions of a file of a crate that has the text."""
-    kind, at = [], 0
+    kind = []
     for item in re.split(r"^(?=impl\b|\}$| *(?:pub (?:extern \"C\" )?)?fn )", text, flags=re.M):
         if item.startswith("impl"):
             kind = [re.match(r"impl(?:<[^>]*>)? (\w+)", item).group(1)]
@@ -53,8 +53,7 @@ def functions_in(crate, path, text):
             kind = []
         elif re.match(r" *(?:pub (?:extern \"C\" )?)?fn ", item):
             inside = kind if item.startswith(" ") else []
-            yield Function(crate, path, inside, item, at, path.name in shown(crate) and item.lstrip().startswith("pub "))
-        at += len(item)
+            yield Function(crate, path, inside, item, path.name in shown(crate) and item.lstrip().startswith("pub "))
 
 
 @functools.lru_cache(None)
@@ -86,15 +85,17 @@ def pieces_of(edit):
 
 
 def parts_of(crate, file, text):
-    """What a file declares, by name: functions, definitions with their module, and other items of a source."""
+    """What a file declares, by name: definitions with their module, or functions and constants."""
     path = ROOT / "crates" / crate / file
     if path.suffix == ".antt":
         side, *module = path.relative_to(ROOT / "crates" / crate).with_suffix("").parts
         where = crate, side, ".".join(module)
         return {(where, name): d.lines() for name, d in definitions.Module(text).definitions.items()}
     found = {function.name: function.clauses + function.body for function in functions_in(crate, path, text)}
-    for name, value in re.findall(r"^ *(?:pub )?const (\w+): (.*?);$", text, re.M | re.S):
-        found.setdefault(f"const {name}", []).append(value)
+    for item in re.split(r"^(?=impl\b|\}$)", text, flags=re.M):
+        kind = "".join(re.findall(r"\Aimpl(?:<[^>]*>)? (\w+)", item))
+        for name, value in re.findall(r"^ *(?:pub )?const (\w+): (.*?);$", item, re.M | re.S):
+            found[f"const {kind}::{name}" if kind else f"const {name}"] = value
     return found
 
 
@@ -171,6 +172,6 @@ class Calls:
             found = set()
             for function in self.reached(call, parts):
                 found |= {function.name} | self.cited(function)
-                found |= {f"const {name}" for name in re.findall(r"\b([A-Z][A-Z0-9_]*)\b", function.body)}
+                found |= {f"const {name}" for name in CONSTANT.findall(function.body)}
             self.kept[call.name, parts] = found
         return self.kept[call.name, parts]

@@ -84,21 +84,17 @@ class Prover:
         self.logic = ["--antt-project", home / "logic" / "antt-project.json", "--logic-built", self.kit / "logic-built"]
         self.folder = self.folder_of_modules()
 
-    def check(self, crate, below, file, incremental, built={}):
-        """The verdict on a crate, over the libraries of target/rlib or those built in their place."""
-        return self.run("check", crate, below, file, ["--incremental", incremental], built)
-
-    def build(self, crate, below, file, library, built={}):
-        return self.run("build", crate, below, file, ["-o", library], built)
-
-    def run(self, verb, crate, below, file, more, built):
-        words = [self.kit / "bin" / "rattle", verb, "--crate-name", crate, file]
-        for name in ["std"] + below:
-            own = built.get(name, ROOT / "target" / "rlib" / f"{name}.rlib")
-            words += ["--extern", f"{name}={own if own.exists() else self.kit / 'rlib' / f'{name}.rlib'}"]
+    def check(self, crate, file, incremental, sources={}):
+        """The verdict on a crate, over the libraries of target/rlib, or over those that are given by their root files."""
+        words = [self.kit / "bin" / "rattle", "check", "--crate-name", crate, file]
+        for name in ["std"] + self.proofs.below[crate]:
+            own = ROOT / "target" / "rlib" / f"{name}.rlib"
+            if name in sources:
+                words += ["--lib", f"{name}:{','.join(self.proofs.below[name])}={sources[name]}"]
+            else:
+                words += ["--extern", f"{name}={own if own.exists() else self.kit / 'rlib' / f'{name}.rlib'}"]
         words += ["-L", f"dependency={ROOT / 'target' / 'rlib'}", "-L", f"dependency={self.kit / 'rlib'}"]
-        words += self.logic + more
-        status, said = self.ran(words)
+        status, said = self.ran(words + self.logic + ["--incremental", incremental])
         verdict = [line for line in said.split("\n") if line.startswith("logic=")]
         if status == 0 and verdict and verdict[-1].startswith("logic=proved"):
             return PROVED, said
@@ -127,7 +123,8 @@ class Prover:
         shutil.rmtree(modules, ignore_errors=True)
         (crate / "src").mkdir(parents=True, exist_ok=True)
         (crate / "src" / "lib.rt").write_text("pub fn one() -> u8 {\n    1\n}\n")
-        self.check("one", [], crate / "src" / "lib.rt", modules)
+        words = [self.kit / "bin" / "rattle", "check", "--crate-name", "one", crate / "src" / "lib.rt"]
+        self.ran(words + ["--extern", f"std={self.kit / 'rlib' / 'std.rlib'}"] + self.logic + ["--incremental", modules])
         return next(modules.iterdir()).name
 
 
@@ -138,8 +135,8 @@ def remove(path):
 class Seeds:
     """The checked modules of each crate as it stands, in a copy that no other check touches, by their names and inodes."""
 
-    def __init__(self, prover, below):
-        self.prover, self.below, self.lock, self.found = prover, below, threading.Lock(), {}
+    def __init__(self, prover):
+        self.prover, self.lock, self.found = prover, threading.Lock(), {}
 
     def folder(self, crate):
         return RUN / "seed" / crate / self.prover.folder
@@ -168,37 +165,57 @@ class Bench:
     """A place where one crate at a time is checked with changes made."""
 
     def __init__(self, seeds, number):
-        self.seeds, self.prover, self.below = seeds, seeds.prover, seeds.below
-        self.place, self.holds = RUN / f"bench-{number}", None
+        self.seeds, self.prover = seeds, seeds.prover
+        self.place, self.holds = RUN / f"bench-{number}", []
 
-    def lay(self, crate):
-        """A copy of the crate, and its checked modules: links suffice, since the prover replaces a file and never writes into it."""
-        for part in ("src",) if self.holds == crate else ("src", "specs", "proofs"):
-            if (ROOT / "crates" / crate / part).exists():
-                shutil.copytree(ROOT / "crates" / crate / part, self.place / crate / part, dirs_exist_ok=True)
-        modules, seed = self.place / f"{crate}.modules" / self.prover.folder, self.seeds.of(crate)
+    def lay(self, crates):
+        """A copy of the crates, and their checked modules: links suffice, since the prover replaces a file and never writes into it."""
+        for crate in crates:
+            for part in ("src",) if self.holds == crates else ("src", "specs", "proofs"):
+                if (ROOT / "crates" / crate / part).exists():
+                    shutil.copytree(ROOT / "crates" / crate / part, self.place / crate / part, dirs_exist_ok=True)
+        modules = self.modules() / self.prover.folder
         modules.mkdir(parents=True, exist_ok=True)
+        seed = {name: (inode, crate) for crate in crates for name, inode in self.seeds.of(crate).items()}
         there = {entry.name: entry.inode() for entry in os.scandir(modules)}
         for name in there:
-            if there[name] != seed.get(name):
+            if name not in seed or there[name] != seed[name][0]:
                 remove(modules / name)
-        for name in seed:
-            if there.get(name) != seed[name]:
+        for name, (inode, crate) in seed.items():
+            if there.get(name) != inode:
                 os.link(self.seeds.folder(crate) / name, modules / name)
+
+    def modules(self):
+        return self.place / "modules"
 
     def root(self, crate):
         return self.place / crate / "src" / ("main.rt" if is_program(crate) else "lib.rt")
 
-    def hold(self, crate):
-        """The crate as it stands; what the last changes of the same crate touched is put back."""
-        if self.holds != crate:
+    def hold(self, crates):
+        """The crates as they stand; what the last changes of the same crates touched is put back."""
+        if self.holds != crates:
             shutil.rmtree(self.place, ignore_errors=True)
-        self.lay(crate)
-        self.holds = crate
+        self.lay(crates)
+        self.holds = crates
 
     def check(self, crate, changes=()):
         """The verdict on the crate with the changes made."""
-        self.hold(crate)
+        self.hold([crate])
+        self.change(crate, changes)
+        told = self.prover.check(crate, self.root(crate), self.modules())
+        self.seeds.after(crate, self.modules() / self.prover.folder)
+        return told
+
+    def check_above(self, crate, above, changes):
+        """The verdict on a crate that stands on the changed one: that one and those in between are given as sources, so that of
+        them too the prover checks anew only what the changes touch."""
+        below = self.prover.proofs.below
+        between = [name for name in below[above] if name == crate or crate in below.get(name, [])]
+        self.hold([*between, above])
+        self.change(crate, changes)
+        return self.prover.check(above, self.root(above), self.modules(), {name: self.root(name) for name in between})
+
+    def change(self, crate, changes):
         pieces = {}
         for change in changes:
             for file, *piece in change.pieces:
@@ -208,10 +225,7 @@ class Bench:
             path.write_text(replaced(path.read_text(), pieces[file]))
             # A bench that holds the crate puts back its sources alone.
             if not file.startswith("src/"):
-                self.holds = None
-        told = self.prover.check(crate, self.below[crate], self.root(crate), self.place / f"{crate}.modules")
-        self.seeds.after(crate, self.place / f"{crate}.modules" / self.prover.folder)
-        return told
+                self.holds = []
 
 
 def replaced(text, pieces):
@@ -288,7 +302,8 @@ def told_together(bench, lot):
 
 
 def lots_of(changes, most=LOT):
-    """Changes of one crate in lots of at most so many: in each at most one of a function, and one of anything else by itself."""
+    """Changes of one crate in lots of at most so many, the largest last: in each at most one of a function, and one of anything else
+    by itself."""
     alone, of = [], {}
     for change in changes:
         if change.function is None:
@@ -301,12 +316,13 @@ def lots_of(changes, most=LOT):
         longest = sorted(of, key=lambda name: -len(of[name]))[:most]
         lots.append([of[name].pop(0) for name in longest])
         of = {name: left for name, left in of.items() if left}
-    return alone + lots
+    return alone + lots[::-1]
 
 
 class Work:
-    """The lots still to try, by crate. A bench goes on with the crate that it holds and then takes one that no other holds:
-    programs first, since the first check of each is of the whole program, and then what has most lots. At last it helps another."""
+    """The lots still to try, by crate, each crate's from its last. A bench goes on with the crate that it holds and then takes one that
+    no other holds: programs first, since the first check of each is of the whole program, and then what has most lots. At last it
+    helps another."""
 
     def __init__(self, lots, proofs):
         self.lock, self.held, self.left, self.proofs = threading.Lock(), {}, {}, proofs
