@@ -1,11 +1,13 @@
 // Makes the house records of a day from its text, as docs/TEXT.md says.
 mod input;
 mod outcome;
+mod told;
 mod turns;
 
 fn main() {
     let mut chunk = io::large_buffer();
     let mut line = input::blank();
     let mut output = io::large_buffer();
-    outcome::tell(turns::make(&mut chunk, &mut line, &mut output));
+    let outcome = turns::make(&mut chunk, &mut line, &mut output);
+    outcome::tell(outcome, &line);
 }

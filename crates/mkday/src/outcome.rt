@@ -1,12 +1,14 @@
 // How a run ends.
 use crate::input::least;
+use crate::told::tell_person;
 use libc::STDERR_FILENO;
 use libc::STDOUT_FILENO;
+use text::spot::Spot;
 
-// The day is written whole; refused by a number at a line; or what could not be done.
+// The day is written whole; refused by a number at a line, and what of the line; or what could not be done.
 pub enum Outcome {
     Whole,
-    Refused(u8, u64),
+    Refused(u8, u64, Spot),
     Unread,
     Unwritten,
 }
@@ -25,12 +27,13 @@ fn tell_refusal(number: u8, line: u64) {
     io::write_all(STDERR_FILENO, b"\n");
 }
 
-// Says on standard error what went wrong.
-pub fn tell(outcome: Outcome) {
+// Says on standard error what went wrong; a refused line that tells a word is the one at hand.
+pub fn tell(outcome: Outcome, line: &[u8]) {
     match outcome {
         Outcome::Whole => {}
-        Outcome::Refused(number, line) => {
-            tell_refusal(number, line);
+        Outcome::Refused(number, at, spot) => {
+            tell_refusal(number, at);
+            tell_person(number, at, spot, line);
         }
         Outcome::Unread => {
             io::write_all(STDERR_FILENO, b"FAILED reading\n");

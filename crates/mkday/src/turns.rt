@@ -11,6 +11,7 @@ use text::line::line_in;
 use text::making::Made;
 use text::making::Making;
 use text::making::ROOM;
+use text::spot::Spot;
 
 // Where the reading and the making stand, and how many bytes of the output wait to be written; or how the run ended.
 enum Step {
@@ -66,7 +67,11 @@ fn follow(input: Input, made: Made, output: &[u8], full: usize) -> Step
             let end = full + least(bytes, output.len() - full);
             keep(input, next, output, end)
         }
-        Made::Refused(number, line) => stop(Outcome::Refused(number, line), output, full),
+        Made::Refused(number, line, spot) => stop(
+            Outcome::Refused(number, line, spot),
+            output,
+            full,
+        ),
     }
 }
 
@@ -82,7 +87,7 @@ fn ending(input: Input, making: Making) -> Outcome {
     if making.is_over() {
         return Outcome::Whole;
     }
-    Outcome::Refused(1, std::num::wrapping_add_u64(input.lines, 1))
+    Outcome::Refused(1, std::num::wrapping_add_u64(input.lines, 1), Spot::Nowhere)
 }
 
 // The next line, or the end.

@@ -3,4 +3,5 @@ pub mod Numbers
 pub mod Dates
 pub mod Fields
 pub mod Line
+pub mod Spot
 pub mod Making

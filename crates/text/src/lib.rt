@@ -4,4 +4,5 @@ mod fields;
 pub mod line;
 pub mod making;
 mod numbers_in;
+pub mod spot;
 mod values_in;

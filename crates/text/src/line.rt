@@ -229,7 +229,7 @@ fn bare_in(text: &[u8]) -> Line
 }
 
 // The length of the byte order mark, which may stand at the front of the text alone.
-fn mark_length(line: &[u8], number: u64) -> usize
+pub fn mark_length(line: &[u8], number: u64) -> usize
     ensures { λ r. ⌜ (r ≡ markLength (now (line .entry)) number) × (r ≤ length (now (line .entry))) ⌝ }
 {
     if number != 1 {

@@ -4,8 +4,10 @@ ghost use Prim.Native.Nat.{_+_};
 ghost use lib.Dec.{leb};
 ghost use Rattle.terms.specs.Refusals.{answer};
 ghost use Rattle.records.specs.Reading.{valueFaults};
-ghost use Rattle.text.specs.Making.{writtenMade, dayTurn, endTurn, openFound, groupTurn, foundOf, wholeMade, unitTurn, unitNext, isDue, isOver, mayCome, lineTurn, turnOf, Turns};
+ghost use Rattle.text.specs.Making.{writtenMade, dayTurn, endTurn, openFound, groupTurn, foundOf, wholeMade, unitTurn, unitNext, isDue, isOver, mayCome, wordOf, cameOf, lineTurn, turnOf, Turns};
+use crate::fields::Field;
 use crate::line::Line;
+use crate::spot::Spot;
 use records::day::DayRecord;
 use records::end::EndRecord;
 use records::faults::faults;
@@ -21,10 +23,10 @@ use writers::single::write_end;
 // The longest block.
 pub const ROOM: usize = GroupRecord::LEN + UnitRecord::LEN * (GroupRecord::UNITS as usize);
 
-// The first refusal of a block that is told when all its lines are read: number and line.
+// The first refusal of a block that is told when all its lines are read: number, line and what of the line.
 pub enum Found {
     Nothing,
-    Fault(u8, u64),
+    Fault(u8, u64, Spot),
 }
 
 // A block whose units are due: how many, where in the room the next one lies, and the least number that it may have.
@@ -47,19 +49,19 @@ pub enum Made {
     On(Making),
     // So many bytes of the room are a record or a block.
     Whole(Making, usize),
-    // A number, at a line.
-    Refused(u8, u64),
+    // A number, at a line, and what of the line.
+    Refused(u8, u64, Spot),
 }
 
 // A single record, as its writer answers.
-fn written(a: Answer, next: Making, line: u64) -> Made
-    ensures { λ r. ⌜ r ≡ writtenMade (answer a) next line ⌝ }
+fn written(a: Answer, next: Making, line: u64, spot: Spot) -> Made
+    ensures { λ r. ⌜ r ≡ writtenMade (answer a) next line spot ⌝ }
 {
     match a {
         Answer::Is(bytes) => Made::Whole(next, bytes),
         Answer::Refused(r) => {
             let why = r.why;
-            Made::Refused(why.number(), line)
+            Made::Refused(why.number(), line, spot)
         }
     }
 }
@@ -80,22 +82,22 @@ fn day(d: DayRecord, line: u64, room: &mut [u8]) -> Made
     ensures { λ r. ⌜ Turns (dayTurn d line (now (room .entry))) r (now (room .exit)) ⌝ }
 {
     let a = write_day(d, room);
-    written(a, Making::Between, line)
+    written(a, Making::Between, line, Spot::OfDay(d))
 }
 
 fn end(e: EndRecord, line: u64, room: &mut [u8]) -> Made
     ensures { λ r. ⌜ Turns (endTurn e line (now (room .entry))) r (now (room .exit)) ⌝ }
 {
     let a = write_end(e.groups, room);
-    written(a, Making::Over, line)
+    written(a, Making::Over, line, Spot::Nowhere)
 }
 
 // 4 is told later.
-fn open_found(quarter: u8, line: u64) -> Found
-    ensures { λ r. ⌜ r ≡ openFound quarter line ⌝ }
+fn open_found(g: GroupRecord, line: u64) -> Found
+    ensures { λ r. ⌜ r ≡ openFound g line ⌝ }
 {
-    if DayRecord::AUTUMN <= quarter {
-        return Found::Fault(4, line);
+    if DayRecord::AUTUMN <= g.quarter {
+        return Found::Fault(4, line, Spot::OfGroup(g));
     }
     Found::Nothing
 }
@@ -105,13 +107,13 @@ fn group(g: GroupRecord, line: u64, room: &mut [u8]) -> Made
     ensures { λ r. ⌜ Turns (groupTurn g line (now (room .entry))) r (now (room .exit)) ⌝ }
 {
     if !GroupRecord::permits(g.count as usize) {
-        return Made::Refused(5, line);
+        return Made::Refused(5, line, Spot::OfGroup(g));
     }
     if room.len() < GroupRecord::LEN {
-        return Made::Refused(12, line);
+        return Made::Refused(12, line, Spot::Nowhere);
     }
     lay_group(room, 0, g);
-    let found = open_found(g.quarter, line);
+    let found = open_found(g, line);
     Made::On(Making::Within(Block {
         left: g.count,
         here: GroupRecord::LEN,
@@ -122,7 +124,7 @@ fn group(g: GroupRecord, line: u64, room: &mut [u8]) -> Made
 
 // The first that is found stays.
 fn found_in(found: Found, u: UnitRecord, floor: u32, line: u64) -> Found
-    ensures { λ r. ⌜ r ≡ foundOf found (valueFaults u floor) line ⌝ }
+    ensures { λ r. ⌜ r ≡ foundOf found (valueFaults u floor) u line ⌝ }
 {
     let Found::Nothing = found else {
         return found;
@@ -132,7 +134,7 @@ fn found_in(found: Found, u: UnitRecord, floor: u32, line: u64) -> Found
         return Found::Nothing;
     };
     let why = fault.why();
-    Found::Fault(why.number(), line)
+    Found::Fault(why.number(), line, Spot::OfUnit(u, fault))
 }
 
 // A block of which all lines are read.
@@ -141,7 +143,7 @@ fn whole(found: Found, bytes: usize) -> Made
 {
     match found {
         Found::Nothing => Made::Whole(Making::Between, bytes),
-        Found::Fault(number, line) => Made::Refused(number, line),
+        Found::Fault(number, line, spot) => Made::Refused(number, line, spot),
     }
 }
 
@@ -151,7 +153,7 @@ fn unit(b: Block, u: UnitRecord, line: u64, room: &mut [u8]) -> Made
     let here = b.here;
     let length = u.length();
     if !has_room(room.len(), here, length) {
-        return Made::Refused(12, line);
+        return Made::Refused(12, line, Spot::Nowhere);
     }
     let next = here + length;
     lay_unit(room, here, u);
@@ -174,9 +176,30 @@ fn unit_next(m: Making, u: UnitRecord, line: u64, room: &mut [u8]) -> Made
 {
     match m {
         Making::Within(b) => unit(b, u, line, room),
-        Making::Opening => Made::Refused(2, line),
-        Making::Between => Made::Refused(2, line),
-        Making::Over => Made::Refused(2, line),
+        Making::Opening => Made::Refused(2, line, Spot::Came(UnitRecord::KIND)),
+        Making::Between => Made::Refused(2, line, Spot::Came(UnitRecord::KIND)),
+        Making::Over => Made::Refused(2, line, Spot::Came(UnitRecord::KIND)),
+    }
+}
+
+fn word(kind: u8, field: Field) -> Spot
+    ensures { λ r. ⌜ r ≡ wordOf kind field ⌝ }
+{
+    Spot::Word(kind, field.index, field.start, field.end)
+}
+
+// The word of a line that may not come.
+fn came(l: Line) -> Spot
+    ensures { λ r. ⌜ r ≡ cameOf l ⌝ }
+{
+    match l {
+        Line::Day(_) => Spot::Came(DayRecord::KIND),
+        Line::Group(_) => Spot::Came(GroupRecord::KIND),
+        Line::Unit(_) => Spot::Came(UnitRecord::KIND),
+        Line::End(_) => Spot::Came(EndRecord::KIND),
+        Line::Passed => Spot::Nowhere,
+        Line::TooLong => Spot::Nowhere,
+        Line::Not(kind, field) => word(kind, field),
     }
 }
 
@@ -241,8 +264,8 @@ impl Making {
             Line::Unit(u) => unit_next(self, u, line, room),
             Line::End(e) => end(e, line, room),
             Line::Passed => Made::On(self),
-            Line::TooLong => Made::Refused(0, line),
-            Line::Not(_, _) => Made::Refused(0, line),
+            Line::TooLong => Made::Refused(0, line, Spot::Nowhere),
+            Line::Not(kind, field) => Made::Refused(0, line, word(kind, field)),
         }
     }
 
@@ -251,7 +274,7 @@ impl Making {
         ensures { λ r. ⌜ Turns (turnOf self l line (now (room .entry))) r (now (room .exit)) ⌝ }
     {
         if !self.may_come(l) {
-            return Made::Refused(2, line);
+            return Made::Refused(2, line, came(l));
         }
         self.made(l, line, room)
     }

@@ -56,14 +56,14 @@ returns-2 c =
     let size = asked .before .length .ensures in
     rw (rw size at (sym (asked .has-room .ensures) ∙ not-false _ (long .if1 .left)), le-leb _ _ (last .if2 .taken), ← (found .found-in .ensures)) (record { answered = rw size at (c .whole .ensures); left = lay .lay-unit .ensures })
 
-sub-t16 : tie.Need-sub-t16
-sub-t16 c = search needs
+sub-t17 : tie.Need-sub-t17
+sub-t17 c = search needs
 
-cast-t17 : tie.Need-cast-t17
-cast-t17 c = search needs
+cast-t18 : tie.Need-cast-t18
+cast-t18 c = search needs
 
-add-t18 : tie.Need-add-t18
-add-t18 c = search needs
+add-t19 : tie.Need-add-t19
+add-t19 c = search needs
 
 same-length-2 : tie.Need-same-length-2
 same-length-2 c = search needs
@@ -92,8 +92,8 @@ unit-spec =
     whole-requires
     same-length
     returns-2
-    sub-t16
-    cast-t17
-    add-t18
+    sub-t17
+    cast-t18
+    add-t19
     same-length-2
     returns-3)

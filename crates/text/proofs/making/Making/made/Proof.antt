@@ -34,8 +34,11 @@ enum-told c = search needs
 enum-told-2 : tie.Need-enum-told-2
 enum-told-2 c = search needs
 
-enum-told-3 : tie.Need-enum-told-3
-enum-told-3 c = search needs
+enum-known-l-5 : tie.Need-enum-known-l-5
+enum-known-l-5 c = search needs
+
+word-requires : tie.Need-word-requires
+word-requires c κs = search needs
 
 same-length : tie.Need-same-length
 same-length c = search needs
@@ -80,7 +83,7 @@ returns-6 : tie.Need-returns-6
 returns-6 c = rw (c .enum-told2 .given .1) (record { answered = refl; left = refl })
 
 returns-7 : tie.Need-returns-7
-returns-7 c = rw (c .enum-told3 .given .1) (record { answered = refl; left = refl })
+returns-7 c = rw (c .word .ensures, c .before .before .l5 .given .1) (record { answered = refl; left = refl })
 
 pub made-spec : {M : Type 1} → statement M
 made-spec =
@@ -96,7 +99,8 @@ made-spec =
     end-requires
     enum-told
     enum-told-2
-    enum-told-3
+    enum-known-l-5
+    word-requires
     same-length
     returns
     same-length-2

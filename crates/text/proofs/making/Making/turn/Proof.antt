@@ -9,9 +9,14 @@ use Rattle.text.proofs.making.Making.turn.Tie as tie
 may-come-requires : tie.Need-may-come-requires
 may-come-requires c κs = search needs
 
+came-requires : tie.Need-came-requires
+came-requires c κs = search needs
+
 returns : tie.Need-returns
 unfolding turnOf
-returns c = rw (sym (c .before .may-come .ensures) ∙ not-true _ (c .if1 .taken)) (record { answered = refl; left = refl })
+returns c =
+    let test = c .before in
+    rw (sym (test .before .may-come .ensures) ∙ not-true _ (test .if1 .taken)) (record { answered = rw (c .came .ensures); left = refl })
 
 made-requires : tie.Need-made-requires
 made-requires c κs = search needs
@@ -27,4 +32,4 @@ returns-2 c =
     rw (sym (test .before .may-come .ensures) ∙ not-false _ (test .if1 .left)) (made .made .ensures)
 
 pub turn-spec : {M : Type 1} → statement M
-turn-spec = tie.close (tie.spec may-come-requires returns made-requires same-length returns-2)
+turn-spec = tie.close (tie.spec may-come-requires came-requires returns made-requires same-length returns-2)
