@@ -4,6 +4,7 @@ pub mod Read
 pub mod Counting
 pub mod Taking
 pub mod ByKind
+pub mod BlockAlone
 pub mod Outcomes
 pub mod Beyond
 pub mod Walking

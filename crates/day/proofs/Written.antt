@@ -5,12 +5,11 @@ use mathlib.Core.Bool.{true}
 use mathlib.Core.List.{List}
 use native.Mathlib.Omega.{arith}
 use borrow.Author.Tests.{lt-ltb, le-leb}
-use lib.Dec.{ltb}
 use lib.ListN.{length}
 use Rattle.terms.specs.Reply.{is, need, next}
 use Rattle.terms.specs.Refusals.{answer}
 use Rattle.terms.specs.declared.refusal.Answer.{Answer}
-use Rattle.terms.proofs.Replies.{need-is, next-is}
+use Rattle.terms.proofs.Replies.{next-is}
 use Rattle.records.specs.declared.day.DayRecord.{DayRecord}
 use Rattle.records.specs.declared.end.EndRecord.{EndRecord}
 use Rattle.records.specs.Layouts.{dayLengthOf, endKind, endLength}
@@ -25,16 +24,16 @@ use Rattle.writers.proofs.Back.{day-back, end-back, block-taken}
 use Rattle.walk.specs.declared.table.State.the-variants.{Fresh, Open}
 use Rattle.walk.specs.declared.table.Role.the-variants as R
 use Rattle.walk.specs.declared.table.Head.{Head}
-use Rattle.walk.specs.Table.{headIn, blockHeadIn}
-use Rattle.records.proofs.Fields.{past}
-use Rattle.walk.proofs.Coming.{came, day-comes, group-comes, end-comes, block-came}
+use Rattle.walk.specs.Table.{headIn}
+use Rattle.walk.proofs.Coming.{came, day-comes, group-comes, end-comes}
 use Rattle.day.specs.declared.value.Day.{Day}
 use Rattle.blocks.specs.declared.check.Block.{Block}
 use Rattle.day.specs.Days.{opened, counted, closed, couldBeOpen, possible}
 use Rattle.blocks.specs.Checking.{blockOf}
-use Rattle.day.specs.Checking.{blockFieldsOf, checkOf}
+use Rattle.day.specs.Checking.{blockFieldsOf, blockHeadFor, checkOf}
 use Rattle.day.specs.Offers.{headFor, dayTaken, blockTaken, endTaken, offerOf}
 use Rattle.day.proofs.ByKind.{offer-day, offer-block, offer-end}
+use Rattle.day.proofs.BlockAlone.{block-for}
 
 module _ (day : Day) (s : List ℕ) (possibly : possible day ≡ true) where
   -- the head of a record that may come
@@ -68,27 +67,14 @@ module _ (day : Day) (s : List ℕ) (possibly : possible day ≡ true) where
       let q : dayLengthOf d ≡ a .end = ap dayLengthOf (a .value) ∙ day-ends s (a .head) in
       offer-day day s (record { role = R.Opens; end = a .end }) (comes (rw p (day-comes s (a .head)))) refl room ∙ rw (a .fields, q)
 
--- what passed checks say: the head of a block came, and its fields are read
-checked-parts : (day : Day) (s : List ℕ) {block : Block} → checkOf day s ≡ is block
-    → (head : Head) × ((headFor day s ≡ is head) × ((head .role ≡ R.Block) × (blockFieldsOf day s ≡ is block)))
-unfolding checkOf headFor
-checked-parts day s {block} e =
-    let some = need-is (ltb 0 (length s)) 1 (length s) _ e in
-    let may = need-is (possible day) 2 0 _ (some .1) in
-    let f = next-is (blockHeadIn s 0 (day .state)) (λ _. blockFieldsOf day s) (may .1) in
-    let came = block-came s 0 (day .state) (f .0) (f .1 .0) in
-    let there = past (ltb 0 (length s)) 1 (length s) (need (possible day) 2 0 (headIn s 0 (day .state))) (some .0) refl in
-    let stands = past (possible day) 2 0 (headIn s 0 (day .state)) (may .0) refl in
-    (f .0, (sym there ∙ sym stands ∙ came .read, (came .role, f .1 .1)))
-
 -- A block that passes its checks for a day is taken by that day, in a room that its result fits.
 pub checked-taken : (day : Day) (s : List ℕ) {block : Block} (room : ℕ) → checkOf day s ≡ is block → block .written ≤ room
     → offerOf day s room ≡ is (record { used = block .used; written = block .written; day = counted day (block .key) })
-unfolding blockTaken next need
+unfolding checkOf blockTaken next need
 checked-taken day s {block} room e h =
-    let p = checked-parts day s e in
-    let head = p .0 in
-    offer-block day s head (p .1 .0) (p .1 .1 .0) room ∙ simp (p .1 .1 .1, le-leb (block .written) room h)
+    let p = next-is (blockHeadFor day s) (λ _. blockFieldsOf day s) e in
+    let b = block-for day s (p .1 .0) in
+    offer-block day s (p .0) (b .came) (b .role) room ∙ simp (p .1 .1, le-leb (block .written) room h)
 
 module _ {entry exit : List ℕ} {r : Answer} {n : ℕ} (done : answer r ≡ is n) where
   -- A day record that our writer made opens any fresh day.

@@ -18,7 +18,7 @@ use Rattle.day.specs.declared.offer.Step.{Step}
 use Rattle.day.specs.declared.offer.Offered.{Offered}
 use Rattle.day.specs.declared.offer.Offered.the-variants as O
 use Rattle.day.specs.Days.{opened, counted, closed, possible}
-use Rattle.day.specs.Checking.{blockFieldsOf}
+use Rattle.day.specs.Checking.{blockFieldsOf, blockHeadFor}
 use Rattle.blocks.specs.Blocks.{blockResult}
 
 -- the head of what is offered: 1 if empty, 2, 1
@@ -57,6 +57,10 @@ taken day s room Closes end = endTaken day s end
 unfoldable pub offerOf : Day → List ℕ → ℕ → Reply Step
 offerOf day s room = next (headFor day s) λ head. taken day s room (head .role) (head .end)
 
+-- the same of a block alone, where any other record is 2
+unfoldable pub blockOfferOf : Day → List ℕ → ℕ → Reply Step
+blockOfferOf day s room = next (blockHeadFor day s) λ _. blockTaken day s room
+
 -- what an accepted offer writes: the result of a block, and nothing for a day or an end
 abbrev pub writtenOf : List ℕ → List ℕ
 writtenOf s = pick (isBlock (roleOf (byteAt s 0))) (blockResult s) []
@@ -90,3 +94,6 @@ pub record Offering (right : Reply Step) (bytes : List ℕ) (day : Day) (entry :
 
 abbrev pub Offers : Day → List ℕ → List ℕ → Offered → List ℕ → Type 0
 Offers day s entry r exit = Offering (offerOf day s (length entry)) (writtenOf s) day entry r exit
+
+abbrev pub OffersBlock : Day → List ℕ → List ℕ → Offered → List ℕ → Type 0
+OffersBlock day s entry r exit = Offering (blockOfferOf day s (length entry)) (blockResult s) day entry r exit

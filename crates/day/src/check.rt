@@ -5,15 +5,13 @@ ghost use lib.ListN.{length};
 ghost use Rattle.records.specs.Layouts.{groupLength};
 ghost use Rattle.blocks.specs.Checking.{blockReply};
 ghost use Rattle.day.specs.Checking.{blockFieldsOf, checkOf};
+use crate::head::block_head_for;
 use crate::value::Day;
 use blocks::check::BlockAnswer;
 use blocks::check::units_checked;
 use records::group::GroupAnswer;
 use records::group::group_fields;
-use terms::refusal::Refusal;
-use terms::refusal::Why;
 use walk::table::HeadAnswer;
-use walk::table::block_head;
 
 // The fields of a group record that is there whole, and then its units.
 fn block_fields(day: Day, s: &[u8]) -> BlockAnswer
@@ -33,21 +31,7 @@ fn block_fields(day: Day, s: &[u8]) -> BlockAnswer
 pub fn check_block(day: Day, s: &[u8]) -> BlockAnswer
     ensures { λ r. ⌜ blockReply r ≡ checkOf day (now (s .entry)) ⌝ }
 {
-    let n = s.len();
-    if n == 0 {
-        return BlockAnswer::Refused(Refusal {
-            why: Why::CutShort,
-            place: n,
-        });
-    }
-    if !day.is_possible() {
-        return BlockAnswer::Refused(Refusal {
-            why: Why::Kind,
-            place: 0,
-        });
-    }
-    let state = day.state;
-    let h = block_head(s, 0, state);
+    let h = block_head_for(day, s);
     let HeadAnswer::Is(_) = h else {
         return BlockAnswer::Refused(h.refusal());
     };

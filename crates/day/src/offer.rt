@@ -6,7 +6,8 @@ ghost use Rattle.records.specs.Layouts.{groupLength, endLength};
 ghost use Rattle.records.specs.Reading.{dayEnd};
 ghost use Rattle.walk.specs.Answers.{headReply};
 ghost use Rattle.blocks.specs.Blocks.{blockResult};
-ghost use Rattle.day.specs.Offers.{headFor, dayTaken, blockTaken, endTaken, Gave, Offering, Offers};
+ghost use Rattle.day.specs.Offers.{headFor, dayTaken, blockTaken, endTaken, Gave, Offering, Offers, OffersBlock};
+use crate::head::block_head_for;
 use crate::value::Day;
 use blocks::check::BlockAnswer;
 use blocks::result::take_units;
@@ -73,7 +74,7 @@ fn open_day(day: Day, s: &[u8], end: usize) -> Offered
 }
 
 // A block whose head came: its group record, then its units and the room; its result is written, and the block is counted.
-pub fn take_block(day: Day, s: &[u8], room: &mut [u8]) -> Offered
+fn take_block(day: Day, s: &[u8], room: &mut [u8]) -> Offered
     requires { ⌜ (groupLength ≤ length (now s)) × (day .groups < 4294967295) ⌝ }
     ensures { λ r. ⌜ Offering (blockTaken day (now (s .entry)) (length (now (room .entry)))) (blockResult (now (s .entry))) day (now (room .entry)) r (now (room .exit)) ⌝ }
 {
@@ -125,4 +126,15 @@ pub fn offer(day: Day, s: &[u8], room: &mut [u8]) -> Offered
         Role::Block => take_block(day, s, room),
         Role::Closes => close_day(day, s, head.end),
     }
+}
+
+// One block, offered to a day that takes a block next; any other record is 2.
+pub fn offer_block(day: Day, s: &[u8], room: &mut [u8]) -> Offered
+    ensures { λ r. ⌜ OffersBlock day (now (s .entry)) (now (room .entry)) r (now (room .exit)) ⌝ }
+{
+    let h = block_head_for(day, s);
+    let HeadAnswer::Is(_) = h else {
+        return Offered::Refused(h.refusal(), day);
+    };
+    take_block(day, s, room)
 }

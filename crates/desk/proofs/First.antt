@@ -1,26 +1,25 @@
--- A block by the table, offered as the first of its day: what it writes is its result, which is short.
-use Prim.Native.Nat.{ℕ, _≤_}
-use mathlib.Core.Path.{_≡_, ap, _∙_}
+-- A block offered as the first of its day: it is the block offered alone to the day just opened, and what it writes is short.
+use Prim.Native.Nat.{ℕ}
+use mathlib.Core.Path.{_≡_, refl, sym, ap, _∙_}
 use mathlib.Core.Bool.{true}
 use mathlib.Core.List.{List}
 use native.Mathlib.Omega.{arith}
-use borrow.Author.Tests.{lt-ltb}
 use lib.IntN.{ℤ, pos, negℤ}
 use lib.ListN.{length}
-use Rattle.terms.specs.Reply.{Reply, is, refused, need, next}
+use Rattle.terms.specs.Reply.{Reply, is, refused, next}
 use Rattle.records.specs.declared.day.DayRecord.{DayRecord}
-use Rattle.records.specs.Layouts.{groupLength}
 use Rattle.records.specs.Reading.{permitted, dayOf}
 use Rattle.walk.specs.declared.table.State.the-variants.{Open}
 use Rattle.walk.specs.declared.table.Head.{Head}
 use Rattle.walk.specs.Table.{blockHeadIn}
-use Rattle.walk.proofs.Coming.{BlockCame, block-came}
+use Rattle.day.specs.declared.value.Day.{Day}
 use Rattle.day.specs.declared.offer.Step.{Step}
 use Rattle.day.specs.declared.offer.Offered.{Offered}
 use Rattle.day.specs.Days.{opened}
-use Rattle.blocks.specs.Blocks.{blockResult}
-use Rattle.day.specs.Offers.{headFor, blockTaken, offerOf, offerReply, roomAfter, Offering}
+use Rattle.day.specs.Checking.{blockHeadFor}
+use Rattle.day.specs.Offers.{blockTaken, offerOf, blockOfferOf, offerReply, roomAfter, OffersBlock}
 use Rattle.day.proofs.ByKind.{offer-block}
+use Rattle.day.proofs.BlockAlone.{block-for, head-possible, alone-offered, alone-block}
 use Rattle.day.proofs.Read.{read}
 use Rattle.day.proofs.Outcomes.{taken-block}
 use Rattle.desk.specs.Desk.{firstOf, callOf, given, Gives}
@@ -40,39 +39,31 @@ module _ (day s : List ℕ) (room : ℕ) where
   unfolding callOf next
   day-in e = rw e
 
-pub head-out : (d : DayRecord) (s : List ℕ) (room : ℕ) {n p : ℕ} → blockHeadIn s 0 Open ≡ refused n p → firstOf d s room ≡ refused n p
-unfolding firstOf next
-head-out d s room e = rw e
+module _ (d : DayRecord) (p : permitted (d .quarters) ≡ true) (s : List ℕ) (room : ℕ) where
+  -- for the day just opened the table decides alone
+  head-first : blockHeadFor (opened d) s ≡ blockHeadIn s 0 Open
+  head-first = head-possible (opened d) s (rw p)
 
-module _ (s : List ℕ) {head : Head} (h : blockHeadIn s 0 Open ≡ is head) where
-  came : BlockCame s 0 Open head
-  came = block-came s 0 Open head h
+  pub first-alone : firstOf d s room ≡ blockOfferOf (opened d) s room
+  unfolding firstOf blockOfferOf next
+  first-alone = rw head-first (go (blockHeadIn s 0 Open) refl)
+    where
+      go : (x : Reply Head) → blockHeadIn s 0 Open ≡ x → next x (λ _. offerOf (opened d) s room) ≡ next x (λ _. blockTaken (opened d) s room)
+      go (is head) e =
+          let b = block-for (opened d) s (head-first ∙ e) in
+          offer-block (opened d) s head (b .came) (b .role) room
+      go (refused n q) e = refl
 
-  pub long : groupLength ≤ length s
-  long = came .long
+-- a block that was taken has a short result
+pub short : (day : Day) (s : List ℕ) (room : ℕ) → Short (blockOfferOf day s room)
+short day s room step e =
+    let k = alone-block day s room e in
+    let t = taken-block day s room (sym (alone-offered day s k room) ∙ e) k in
+    let few = read day s (t .long) (t .fields) .few in
+    rw (t .value) (omega arith)
 
-  module _ (d : DayRecord) (p : permitted (d .quarters) ≡ true) (room : ℕ) where
-    -- to the day just opened it comes next, and is a block
-    comes : headFor (opened d) s ≡ is head
-    unfolding headFor need
-    comes = rw (lt-ltb 0 (length s) (omega (arith, came .long)), p, came .read)
-
-    offers-block : offerOf (opened d) s room ≡ blockTaken (opened d) s room
-    offers-block = offer-block (opened d) s head comes (came .role) room
-
-    pub short : Short (blockTaken (opened d) s room)
-    short step e =
-        let t = taken-block (opened d) s room (offers-block ∙ e) (came .first) in
-        let few = read (opened d) s (came .long) (t .fields) .few in
-        rw (t .value) (omega arith)
-
-    head-in : firstOf d s room ≡ blockTaken (opened d) s room
-    unfolding firstOf next
-    head-in = rw h offers-block
-
-  pub gives : (d : DayRecord) → permitted (d .quarters) ≡ true → {entry exit : List ℕ} {o : Offered} {z : ℤ}
-      → Offering (blockTaken (opened d) s (length entry)) (blockResult s) (opened d) entry o exit → z ≡ given (offerReply o)
-      → Gives (firstOf d s (length entry)) s entry z exit
-  gives d p {entry} a e =
-      let f = head-in d p (length entry) in
-      record { replied = rw f (e ∙ ap given (a .gave .replied)); room = rw f (a .room) }
+pub gives : (d : DayRecord) → permitted (d .quarters) ≡ true → (s : List ℕ) {entry exit : List ℕ} {o : Offered} {z : ℤ}
+    → OffersBlock (opened d) s entry o exit → z ≡ given (offerReply o) → Gives (firstOf d s (length entry)) s entry z exit
+gives d p s {entry} a e =
+    let f = first-alone d p s (length entry) in
+    record { replied = rw f (e ∙ ap given (a .gave .replied)); room = rw f (a .room) }

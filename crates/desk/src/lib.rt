@@ -9,15 +9,12 @@ ghost use Rattle.day.specs.Offers.{offerReply};
 ghost use Rattle.desk.specs.Desk.{firstOf, given, Gives, Checks};
 ghost use Rattle.desk.specs.Inner.{Short};
 use day::offer::Offered;
-use day::offer::take_block;
+use day::offer::offer_block;
 use day::value::Day;
 use records::day::DayAnswer;
 use records::day::DayRecord;
 use records::day::read_day;
 use terms::refusal::Refusal;
-use walk::table::HeadAnswer;
-use walk::table::State;
-use walk::table::block_head;
 
 // Minus the refusal number; C gets no place.
 fn minus(r: Refusal) -> i32
@@ -43,11 +40,7 @@ fn check_first(record: DayRecord, block: &[u8], room: &mut [u8]) -> i32
     requires { ⌜ permitted («record» .quarters) ≡ true ⌝ }
     ensures { λ n. ⌜ Gives (firstOf «record» (now (block .entry)) (length (now (room .entry)))) (now (block .entry)) (now (room .entry)) n (now (room .exit)) ⌝ }
 {
-    let h = block_head(block, 0, State::Open);
-    let HeadAnswer::Is(_) = h else {
-        return minus(h.refusal());
-    };
-    let o = take_block(Day::opened(record), block, room);
+    let o = offer_block(Day::opened(record), block, room);
     reply(o)
 }
 
