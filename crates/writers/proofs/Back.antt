@@ -6,7 +6,6 @@ use mathlib.Core.List.{List, _++_, append-assoc}
 use native.Mathlib.Omega.{arith}
 use lib.ListN.{length, drop}
 use borrow.Author.Tests.{le-leb}
-use Rattle.numbers.proofs.Integers.{zarith}
 use Rattle.terms.specs.Reply.{Reply, is, next}
 use Rattle.terms.specs.Refusals.{answer, check}
 use Rattle.terms.specs.Checks.{mostUnits, unitCount}
@@ -30,8 +29,9 @@ use Rattle.writers.specs.Trips.{Values, Joins, Fresh, HeldResults}
 use Rattle.writers.proofs.Runs.{run-at}
 use Rattle.writers.proofs.Lengths.{length-group, length-units, length-group-result, length-results}
 use Rattle.writers.proofs.Accepted.{Accepted, accepted}
-use Rattle.writers.proofs.Fields.{HeldUnit, day-read, group-read, unit-read, end-read, group-result-read, unit-result-read}
-use Rattle.writers.proofs.Readers.{day-reads, group-reads, unit-reads, end-reads}
+use Rattle.writers.proofs.Fields.{day-read, group-read, end-read, group-result-read, unit-result-read}
+use Rattle.writers.proofs.Readers.{day-reads, group-reads, end-reads}
+use Rattle.writers.proofs.UnitBytes.{unit-read, unit-reads}
 
 -- the room begins with what was written
 front : {right : Reply ℕ} (bytes entry : List ℕ) {r : Answer} {exit : List ℕ} {n : ℕ} → Wrote right bytes entry r exit → answer r ≡ is n
@@ -55,14 +55,6 @@ module _ {entry exit : List ℕ} {r : Answer} {n : ℕ} (done : answer r ≡ is 
       (end-read exit 0 (drop n entry) x (f .1), end-reads exit (drop n entry) x (f .1))
 
 -- ---- the block
-held : {u : UnitRecord} → Sound u → HeldUnit u
-held s =
-    let n = s .n in
-    let pc = s .pc in
-    let down = s .step-down in
-    let up = s .step-up in
-    record { n = omega zarith; pc = omega zarith; step-down = omega zarith; step-up = omega zarith }
-
 module _ (g : GroupRecord) (c : Columns) (rest s : List ℕ) (so : s ≡ blockBytes g c ++ rest) where
   -- each unit's record stands where the one before ends
   unit-stands : (i : ℕ) → i < count c → (more : List ℕ) × (drop (unitsEnd c i) s ≡ unitBytes (rowOf c i) ++ more)
@@ -76,7 +68,7 @@ module _ (g : GroupRecord) (c : Columns) (rest s : List ℕ) (so : s ≡ blockBy
     unit-is : (i : ℕ) → i < count c → unitAt s (unitsEnd c i) ≡ rowOf c i
     unit-is i h =
         let p = unit-stands i h in
-        unit-read s (unitsEnd c i) (p .0) (rowOf c i) (held (sounds i h)) (p .1)
+        unit-read s (unitsEnd c i) (p .0) (rowOf c i) (p .1) (sounds i h)
 
     place-is : (i : ℕ) → i ≤ count c → unitPlace s i ≡ unitsEnd c i
     unfolding placeFrom unitsEnd
@@ -96,7 +88,7 @@ module _ (g : GroupRecord) (c : Columns) (rest s : List ℕ) (so : s ≡ blockBy
       units-in (suc left) i e =
           let h : i < count c = omega arith in
           let p = unit-stands i h in
-          rw (unit-reads s (unitsEnd c i) (p .0) (rowOf c i) (floorAt c i) run limit (p .1) (held (sounds i h)) (fine i h)) (units-in left (suc i) (omega arith))
+          rw (unit-reads s (unitsEnd c i) (p .0) (rowOf c i) (p .1) (sounds i h) (floorAt c i) run limit (fine i h)) (units-in left (suc i) (omega arith))
 
 -- past the other checks, the age decides
 aged-fine : (c : Columns) (day : DayRecord) (i : ℕ) → i < count c → rowChecks c i ≡ Fine → Fresh c day

@@ -33,9 +33,10 @@ use Rattle.writers.specs.Columns.{Columns, rowOf, count, same, even, flo
 use Rattle.writers.specs.Writing.{roomFor, groupChecks, unitsEnd, unitsChecked, blockLength, writeBlockOf, groupOver, unitsBytes, blockBytes, BlockWritten}
 use Rattle.writers.specs.Trips.{columnsIn}
 use Rattle.writers.proofs.Runs.{run-again}
-use Rattle.writers.proofs.Lengths.{length-unit, length-units, length-block}
+use Rattle.writers.proofs.Lengths.{length-units, length-block}
 use Rattle.writers.proofs.Accepted.{fine-scan}
-use Rattle.writers.proofs.Fields.{group-laid, unit-laid}
+use Rattle.writers.proofs.Fields.{group-laid}
+use Rattle.writers.proofs.UnitBytes.{length-unit, unit-laid}
 use Rattle.writers.proofs.Again.{written}
 
 -- the floor of a unit's number, by the layout

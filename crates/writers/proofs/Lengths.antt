@@ -7,10 +7,9 @@ use Rattle.numbers.specs.Bytes.{bytes16, bytes32}
 use Rattle.records.specs.declared.day.DayRecord.{DayRecord}
 use Rattle.records.specs.declared.end.EndRecord.{EndRecord}
 use Rattle.records.specs.declared.group.GroupRecord.{GroupRecord}
-use Rattle.records.specs.declared.unit.UnitRecord.{UnitRecord}
 use Rattle.records.specs.declared.group_result.GroupResult.{GroupResult}
 use Rattle.records.specs.declared.unit_result.UnitResult.{UnitResult}
-use Rattle.records.specs.Layouts.{behind, dayLength, dayBytes, endLength, endBytes, groupLength, groupBytes, unitBytes, lengthOf}
+use Rattle.records.specs.Layouts.{behind, dayLength, dayBytes, endLength, endBytes, groupLength, groupBytes, unitBytes}
 use Rattle.records.specs.Longest.{longestUnit}
 use Rattle.records.proofs.UnitHeads.{length-most}
 use Rattle.records.specs.Layouts.{groupResultLength, groupResultBytes, unitResultLength, unitResultBytes}
@@ -19,6 +18,7 @@ use Rattle.writers.specs.Results.{Results, resultOf, unitResultsBytes}
 use Rattle.writers.specs.Runs.{run}
 use Rattle.writers.specs.Writing.{unitsEnd, unitsBytes, blockBytes, blockLength}
 use Rattle.writers.proofs.Runs.{run-more, length-run}
+use Rattle.writers.proofs.UnitBytes.{length-unit}
 
 pub length-day : (d : DayRecord) → length (dayBytes d) ≡ dayLength
 unfolding dayBytes behind bytes32 bytes16
@@ -31,10 +31,6 @@ length-end e = refl
 pub length-group : (g : GroupRecord) → length (groupBytes g) ≡ groupLength
 unfolding groupBytes behind bytes32 bytes16
 length-group g = refl
-
-pub length-unit : (u : UnitRecord) → length (unitBytes u) ≡ lengthOf u
-unfolding unitBytes behind bytes32 bytes16
-length-unit u = refl
 
 pub length-group-result : (g : GroupResult) → length (groupResultBytes g) ≡ groupResultLength
 unfolding groupResultBytes behind bytes32 bytes16

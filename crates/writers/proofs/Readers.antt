@@ -9,20 +9,18 @@ use lib.Seq.{getD-drop}
 use borrow.Author.Tests.{lt-ltb, le-leb, eq-eqb}
 use Rattle.numbers.specs.Bytes.{byteAt, bytes16, bytes32}
 use Rattle.terms.specs.Reply.{is, need, next}
-use Rattle.terms.specs.Refusals.{passed}
 use Rattle.terms.specs.Checks.{unitCount}
-use Rattle.terms.specs.declared.refusal.Checked.the-variants.{Fine}
 use Rattle.records.specs.declared.day.DayRecord.{DayRecord}
 use Rattle.records.specs.declared.group.GroupRecord.{GroupRecord}
-use Rattle.records.specs.declared.unit.UnitRecord.{UnitRecord}
 use Rattle.records.specs.declared.end.EndRecord.{EndRecord}
 use Rattle.records.specs.declared.key.Last.{Last}
-use Rattle.records.specs.Layouts.{behind, dayKind, dayLength, dayBytes, groupKind, groupLength, groupBytes, unitKind, unitLength, unitBytes, lengthOf, endKind, endLength, endBytes}
-use Rattle.records.specs.Reading.{headOf, unitHeadOf, permitted, dayFieldsOf, dayOf, groupFieldsOf, groupOf, endFieldsOf, endOf, unitFaults, unitFieldsOf, unitOf}
+use Rattle.records.specs.Layouts.{behind, dayKind, dayLength, dayBytes, groupKind, groupLength, groupBytes, endKind, endLength, endBytes}
+use Rattle.records.specs.Reading.{headOf, permitted, dayFieldsOf, dayOf, groupFieldsOf, groupOf, endFieldsOf, endOf}
 use Rattle.writers.specs.Trips.{Joins}
-use Rattle.writers.proofs.Fields.{HeldUnit, day-read, group-read, unit-read, end-read}
+use Rattle.writers.proofs.Fields.{day-read, group-read, end-read}
 
-head-read : (s : List ℕ) (at kind len : ℕ) (bytes rest : List ℕ) → drop at s ≡ bytes ++ rest → byteAt bytes 0 ≡ kind → length bytes ≡ len → 1 ≤ len
+-- the head of what was laid
+pub head-read : (s : List ℕ) (at kind len : ℕ) (bytes rest : List ℕ) → drop at s ≡ bytes ++ rest → byteAt bytes 0 ≡ kind → length bytes ≡ len → 1 ≤ len
     → headOf s at kind len ≡ is (at + len)
 unfolding headOf need
 head-read s at kind len bytes rest e k n h =
@@ -41,18 +39,9 @@ module _ (s : List ℕ) (at : ℕ) (rest : List ℕ) where
   unfolding groupBytes behind bytes16 bytes32
   group-head g e = head-read s at groupKind groupLength (groupBytes g) rest e refl refl (omega arith)
 
-  unit-head : (u : UnitRecord) → drop at s ≡ unitBytes u ++ rest → unitHeadOf s at ≡ is (at + lengthOf u)
-  unfolding unitBytes behind bytes16 bytes32
-  unit-head u e = head-read s at unitKind unitLength (unitBytes u) rest e refl refl (omega arith)
-
   end-head : (x : EndRecord) → drop at s ≡ endBytes x ++ rest → headOf s at endKind endLength ≡ is (at + endLength)
   unfolding endBytes behind bytes16 bytes32
   end-head x e = head-read s at endKind endLength (endBytes x) rest e refl refl (omega arith)
-
-  pub unit-reads : (u : UnitRecord) (floor run limit : ℕ) → drop at s ≡ unitBytes u ++ rest → HeldUnit u → unitFaults u floor run limit ≡ Fine
-      → unitOf s at floor run limit ≡ is u
-  unfolding unitOf unitFieldsOf next passed
-  unit-reads u floor run limit e h f = simp (unit-head u e, unit-read s at rest u h e, f)
 
 -- records at the front
 module _ (s rest : List ℕ) where
