@@ -27,10 +27,9 @@ use Rattle.writers.specs.Columns.{Columns, rowOf, count, floorAt, rowChe
 use Rattle.writers.specs.Writing.{Wrote, laid, writeDayOf, DayWritten, EndWritten, groupOver, unitsEnd, unitsBytes, blockBytes, blockLength, writeBlockOf, BlockWritten}
 use Rattle.writers.specs.Trips.{Values, Joins, Fresh, HeldResults}
 use Rattle.writers.proofs.Runs.{run-at}
-use Rattle.writers.proofs.Lengths.{length-group, length-units, length-group-result, length-results}
+use Rattle.writers.proofs.Lengths.{length-units, length-group-result, length-results}
 use Rattle.writers.proofs.Accepted.{Accepted, accepted}
-use Rattle.writers.proofs.Fields.{day-read, group-read, end-read, group-result-read, unit-result-read}
-use Rattle.writers.proofs.Readers.{day-reads, group-reads, end-reads}
+use Rattle.writers.proofs.Fields.{day-read, day-reads, length-group, group-read, group-reads, end-read, end-reads, group-result-read, unit-result-read}
 use Rattle.writers.proofs.UnitBytes.{unit-read, unit-reads}
 
 -- the room begins with what was written
@@ -47,12 +46,12 @@ module _ {entry exit : List ℕ} {r : Answer} {n : ℕ} (done : answer r ≡ is 
   day-back d w =
       let f = front (dayBytes d) entry w done in
       let p = need-is _ _ _ _ (f .0) .0 in
-      (day-read exit 0 (drop n entry) d (f .1), day-reads exit (drop n entry) d (f .1) p)
+      (day-read exit (drop n entry) d (f .1), day-reads exit (drop n entry) d (f .1) p)
 
   pub end-back : (x : EndRecord) → EndWritten x entry r exit → (endAt exit 0 ≡ x) × (endOf exit (x .groups) ≡ is x)
   end-back x w =
       let f = front (endBytes x) entry w done in
-      (end-read exit 0 (drop n entry) x (f .1), end-reads exit (drop n entry) x (f .1))
+      (end-read exit (drop n entry) x (f .1), end-reads exit (drop n entry) x (f .1))
 
 -- ---- the block
 module _ (g : GroupRecord) (c : Columns) (rest s : List ℕ) (so : s ≡ blockBytes g c ++ rest) where
@@ -117,7 +116,7 @@ module _ (brp zone quarter made : ℕ) (c : Columns) {entry exit : List ℕ} {r 
   pub block-back : Values (groupOver brp zone quarter made c) c exit
   block-back =
       record {
-        group = group-read exit 0 (unitsBytes c (count c) ++ drop n entry) group group-front;
+        group = group-read exit (unitsBytes c (count c) ++ drop n entry) group group-front;
         unit = unit-in group c (drop n entry) exit (in-room .1) sounds;
       }
 
@@ -129,7 +128,7 @@ module _ (brp zone quarter made : ℕ) (c : Columns) {entry exit : List ℕ} {r 
       let many = le-leb (count c) mostUnits (took .group .few) in
       let counted : unitCount (count c) ≡ true = rw (few, many) in
       let all = units-in group c (drop n entry) exit (in-room .1) sounds (day .run) (day .«margin_limit») (λ i h. aged-fine c day i h (took .fine i h) k) (count c) 0 (omega arith) in
-      (group-reads exit (unitsBytes c (count c) ++ drop n entry) group day last group-front counted j, all ∙ ap is (sym (took .bytes)))
+      (group-reads exit (unitsBytes c (count c) ++ drop n entry) group group-front day last counted j, all ∙ ap is (sym (took .bytes)))
 
 -- ---- the result of a block
 module _ (g : GroupResult) (r : Results) (rest s : List ℕ) (so : s ≡ resultBytes g r ++ rest) (h : HeldResults g r) where

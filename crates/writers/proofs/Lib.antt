@@ -4,7 +4,6 @@ pub mod Runs
 pub mod Accepted
 pub mod Tables
 pub mod Fields
-pub mod Readers
 pub mod UnitBytes
 pub mod Lengths
 pub mod Back

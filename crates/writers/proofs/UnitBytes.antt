@@ -16,8 +16,7 @@ use Rattle.records.specs.Reading.{unitHeadOf, unitFaults, unitFieldsOf, unitOf}
 use Rattle.records.specs.Inner.{isWhole}
 use Rattle.records.proofs.Accepted.{Sound}
 use Rattle.records.proofs.Heads.{whole-headed}
-use Rattle.writers.proofs.Tables.{AllHeld, table-back, record-again}
-use Rattle.writers.proofs.Readers.{head-read}
+use Rattle.writers.proofs.Tables.{AllHeld, table-back, record-again, head-read}
 
 pub length-unit : (u : UnitRecord) → length (unitBytes u) ≡ lengthOf u
 unfolding unitBytes behind bytes32 bytes16

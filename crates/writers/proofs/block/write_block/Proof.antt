@@ -11,7 +11,8 @@ use Rattle.records.specs.declared.group.GroupRecord.{GroupRecord}
 use Rattle.records.specs.Layouts.{groupLength, groupBytes}
 use Rattle.writers.specs.Columns.{Columns, count}
 use Rattle.writers.specs.Writing.{groupOver, unitsBytes, blockBytes, blockLength}
-use Rattle.writers.proofs.Lengths.{length-group, length-units, length-block, end-from}
+use Rattle.writers.proofs.Lengths.{length-units, length-block, end-from}
+use Rattle.writers.proofs.Fields.{length-group}
 use Rattle.writers.proofs.Accepted.{Accepted, accepted, long}
 use Rattle.writers.proofs.Writes.{refuses, writes}
 use Rattle.writers.proofs.block.write_block.Statement.{statement}
