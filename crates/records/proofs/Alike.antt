@@ -123,8 +123,9 @@ module _ (s t : List ℕ) (n : ℕ) (a : Agree s t n) where
   units-kept at floor run limit (suc left) h e =
       let x = next-is _ _ e in
       let rest = units-accepted s (unitEnd s at) (x .0 .number + 1) run limit left (unit-long s at floor run limit (x .1 .0)) (x .1 .1) in
-      rw (unit-kept at floor run limit (omega (arith, rest .ends, place-from s (unitEnd s at) left)) (x .1 .0))
-      (units-kept (unitEnd s at) (x .0 .number + 1) run limit left h (x .1 .1))
+      let within : unitEnd s at ≤ n = omega (arith, rest .ends, place-from s (unitEnd s at) left) in
+      rw (unit-kept at floor run limit within (x .1 .0))
+      (ap (λ (to : ℕ). unitsOf t to (x .0 .number + 1) run limit left) (ends-same at within) ∙ units-kept (unitEnd s at) (x .0 .number + 1) run limit left h (x .1 .1))
 
   -- where s has those bytes too, and the longest units fit, they are read alike
   module _ (far : n ≤ length s) where

@@ -8,7 +8,6 @@ pub mod Accepted
 pub mod Marks
 pub mod Unique
 pub mod Read
-pub mod Tiled
 pub mod Places
 pub mod Alike
 pub mod Sayable

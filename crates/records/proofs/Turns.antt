@@ -1,4 +1,4 @@
--- The units of a block one after another are a reading by steps, which the first refusal ends; what is at fault lies within its record.
+-- The units of a block one after another are a reading by steps, which the first refusal ends; what is at fault lies within the longest.
 use Prim.Native.Nat.{ℕ, _+_, _<_}
 use mathlib.Core.Path.{refl}
 use mathlib.Core.List.{List}
@@ -7,11 +7,11 @@ use Rattle.terms.specs.Reply.{Reply}
 use Rattle.terms.specs.declared.refusal.Fault.{Fault}
 use Rattle.terms.specs.declared.refusal.Fault.the-variants as F
 use Rattle.terms.proofs.FirstRefused.{Steps}
-use Rattle.records.specs.Layouts.{unitLength}
+use Rattle.records.specs.Longest.{longestUnit}
 use Rattle.records.specs.Reading.{faultPlace, unitEnd, unitOf, unitsOf}
 
--- what is at fault stands within the record
-pub place-within : (fault : Fault) → faultPlace fault < unitLength
+-- what is at fault stands within the longest record
+pub place-within : (fault : Fault) → faultPlace fault < longestUnit
 place-within F.Number = omega arith
 place-within F.Class = omega arith
 place-within F.Coincide = omega arith

@@ -9,6 +9,7 @@ ghost use Rattle.records.specs.Reading.{unitHeadOf, unitEnd, unitFieldsO
 use crate::faults::unit_faults;
 use crate::head::head;
 use crate::unit::UnitRecord;
+use crate::unit::unit_end;
 use crate::unit::unit_fields;
 use terms::refusal::Answer;
 use terms::refusal::Checked;
@@ -50,7 +51,7 @@ pub fn unit_head(s: &[u8], at: usize) -> Answer
     ensures { λ r. ⌜ answer r ≡ unitHeadOf (now (s .entry)) at ⌝ }
 {
     if is_whole(s, at) {
-        return Answer::Is(at + UnitRecord::LEN);
+        return Answer::Is(unit_end(s, at));
     }
     head(s, at, UnitRecord::KIND, UnitRecord::LEN)
 }

@@ -4,7 +4,6 @@ use mathlib.Core.Path.{_≡_}
 use mathlib.Core.Bool.{true, and-eq-true-iff}
 use mathlib.Core.List.{List, [], _∷_}
 use native.Mathlib.Omega.{arith}
-use borrow.Author.Needs.{needs}
 use borrow.Author.Tests.{ltb-true, leb-true, eqb-true}
 use Rattle.terms.specs.Reply.{is}
 use Rattle.terms.specs.Refusals.{passed, firstFault}
@@ -13,16 +12,12 @@ use Rattle.terms.specs.declared.refusal.Checked.{Checked}
 use Rattle.terms.specs.declared.refusal.Checked.the-variants.{Fine}
 use Rattle.terms.proofs.Replies.{need-is, next-is}
 use Rattle.terms.proofs.Scan.{all-fine}
-use Rattle.writers.specs.Columns.{Columns, count, same, even, rowChecks}
+use Rattle.writers.specs.Columns.{Columns, count, same, others, even, rowChecks}
 use Rattle.writers.specs.Writing.{roomFor, groupChecks, blockLength, unitsChecked, writeBlockOf}
-use Rattle.writers.specs.Inner.{Long}
+use Rattle.writers.specs.Inner.{Enough, Long}
 
--- each length of a list of the same lengths
-abbrev All : ℕ → List ℕ → Type 0
-All n [] = Unit
-All n (m ∷ ms) = (n ≤ m) × All n ms
-
-alike : (n : ℕ) (ms : List ℕ) → same n ms ≡ true → All n ms
+-- lengths that are all the same are enough for as many, and for fewer
+alike : (n : ℕ) (ms : List ℕ) → same n ms ≡ true → Enough n ms
 unfolding same
 alike n [] e = tt
 alike n (m ∷ ms) e =
@@ -30,27 +25,18 @@ alike n (m ∷ ms) e =
     let q = eqb-true m n (p .0) in
     (omega arith, alike n ms (p .1))
 
+fewer : {n k : ℕ} (ms : List ℕ) → Enough n ms → k ≤ n → Enough k ms
+fewer [] e h = tt
+fewer (m ∷ ms) e h = (omega (arith, e .0), fewer ms (e .1) h)
+
 -- columns of equal length are long enough for their count
 pub long : (c : Columns) → even c ≡ true → count c ≤ mostUnits → Long (count c) c
 unfolding even
-long c e h =
-    let a = alike _ _ e in
-    record {
-      few = h;
-      number = omega arith;
-      class = a .0;
-      coincide = a .1 .0;
-      nominated = a .1 .1 .0;
-      n = a .1 .1 .1 .0;
-      pc = a .1 .1 .1 .1 .0;
-      step-down = a .1 .1 .1 .1 .1 .0;
-      step-up = a .1 .1 .1 .1 .1 .1 .0;
-      made = a .1 .1 .1 .1 .1 .1 .1 .0;
-    }
+long c e h = record { few = h; number = omega arith; others = alike _ _ e }
 
 -- and for a unit among them
 pub long-below : (c : Columns) {units i : ℕ} → Long units c → i < units → Long (i + 1) c
-long-below c l h = search needs
+long-below c l h = record { few = omega (arith, l .few); number = omega (arith, l .number); others = fewer (others c) (l .others) (omega arith) }
 
 -- the group's own fields
 pub record Grouped (quarter units : ℕ) : Type 0 where

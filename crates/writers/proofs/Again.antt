@@ -18,8 +18,7 @@ use Rattle.records.specs.Reading.{permitted, dayFieldsOf, dayOf, endFieldsOf, e
 use Rattle.records.proofs.Fields.{field-in}
 use Rattle.records.proofs.Heads.{headed}
 use Rattle.writers.specs.Writing.{Wrote, laid, roomFor, writeDayOf, DayWritten, writeEndOf, EndWritten}
-use Rattle.writers.proofs.Lengths.{length-day, length-end}
-use Rattle.writers.proofs.Fields.{day-laid, end-laid}
+use Rattle.writers.proofs.Fields.{length-day, day-laid, length-end, end-laid}
 
 -- a writer that takes the values leaves these bytes in the room
 pub written : {right : Reply ℕ} (bytes entry : List ℕ) {r : Answer} {exit : List ℕ} (n : ℕ) (s : List ℕ) → Wrote right bytes entry r exit → right ≡ is n
@@ -36,7 +35,7 @@ module _ (s : List ℕ) (small : Bytes s) {entry exit : List ℕ} {r : Answer} w
       let a = next-is _ _ e in
       let b = field-in (permitted (dayAt s 0 .quarters)) 3 (dayQuarters .place) (dayAt s 0) (sym (a .1 .1)) in
       let p = rw (← b .1) at (b .0) in
-      let l = rw (← b .1) at (day-laid s small 0 (headed s 0 dayKind dayLength (a .1 .0))) in
+      let l = rw (← b .1) at (day-laid s small (headed s 0 dayKind dayLength (a .1 .0))) in
       written (dayBytes d) entry dayLength s w (simp (p, le-leb dayLength (length entry) h)) (length-day d) l
 
   pub end-again : (x : EndRecord) (groups : ℕ) → endOf s groups ≡ is x → endLength ≤ length entry → EndWritten x entry r exit
@@ -45,5 +44,5 @@ module _ (s : List ℕ) (small : Bytes s) {entry exit : List ℕ} {r : Answer} w
   end-again x groups e h w =
       let a = next-is _ _ e in
       let b = field-in (eqb (endAt s 0 .groups) groups) 14 (endGroups .place) (endAt s 0) (sym (a .1 .1)) in
-      let l = rw (← b .1) at (end-laid s small 0 (headed s 0 endKind endLength (a .1 .0))) in
+      let l = rw (← b .1) at (end-laid s small (headed s 0 endKind endLength (a .1 .0))) in
       written (endBytes x) entry endLength s w (simp (le-leb endLength (length entry) h)) (length-end x) l

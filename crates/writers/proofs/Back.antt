@@ -6,7 +6,6 @@ use mathlib.Core.List.{List, _++_, append-assoc}
 use native.Mathlib.Omega.{arith}
 use lib.ListN.{length, drop}
 use borrow.Author.Tests.{le-leb}
-use Rattle.numbers.proofs.Integers.{zarith}
 use Rattle.terms.specs.Reply.{Reply, is, next}
 use Rattle.terms.specs.Refusals.{answer, check}
 use Rattle.terms.specs.Checks.{mostUnits, unitCount}
@@ -28,10 +27,10 @@ use Rattle.writers.specs.Columns.{Columns, rowOf, count, floorAt, rowChe
 use Rattle.writers.specs.Writing.{Wrote, laid, writeDayOf, DayWritten, EndWritten, groupOver, unitsEnd, unitsBytes, blockBytes, blockLength, writeBlockOf, BlockWritten}
 use Rattle.writers.specs.Trips.{Values, Joins, Fresh, HeldResults}
 use Rattle.writers.proofs.Runs.{run-at}
-use Rattle.writers.proofs.Lengths.{length-group, length-units, length-group-result, length-results}
+use Rattle.writers.proofs.Lengths.{length-units, length-group-result, length-results}
 use Rattle.writers.proofs.Accepted.{Accepted, accepted}
-use Rattle.writers.proofs.Fields.{HeldUnit, day-read, group-read, unit-read, end-read, group-result-read, unit-result-read}
-use Rattle.writers.proofs.Readers.{day-reads, group-reads, unit-reads, end-reads}
+use Rattle.writers.proofs.Fields.{day-read, day-reads, length-group, group-read, group-reads, end-read, end-reads, group-result-read, unit-result-read}
+use Rattle.writers.proofs.UnitBytes.{unit-read, unit-reads}
 
 -- the room begins with what was written
 front : {right : Reply ℕ} (bytes entry : List ℕ) {r : Answer} {exit : List ℕ} {n : ℕ} → Wrote right bytes entry r exit → answer r ≡ is n
@@ -47,22 +46,14 @@ module _ {entry exit : List ℕ} {r : Answer} {n : ℕ} (done : answer r ≡ is 
   day-back d w =
       let f = front (dayBytes d) entry w done in
       let p = need-is _ _ _ _ (f .0) .0 in
-      (day-read exit 0 (drop n entry) d (f .1), day-reads exit (drop n entry) d (f .1) p)
+      (day-read exit (drop n entry) d (f .1), day-reads exit (drop n entry) d (f .1) p)
 
   pub end-back : (x : EndRecord) → EndWritten x entry r exit → (endAt exit 0 ≡ x) × (endOf exit (x .groups) ≡ is x)
   end-back x w =
       let f = front (endBytes x) entry w done in
-      (end-read exit 0 (drop n entry) x (f .1), end-reads exit (drop n entry) x (f .1))
+      (end-read exit (drop n entry) x (f .1), end-reads exit (drop n entry) x (f .1))
 
 -- ---- the block
-held : {u : UnitRecord} → Sound u → HeldUnit u
-held s =
-    let n = s .n in
-    let pc = s .pc in
-    let down = s .step-down in
-    let up = s .step-up in
-    record { n = omega zarith; pc = omega zarith; step-down = omega zarith; step-up = omega zarith }
-
 module _ (g : GroupRecord) (c : Columns) (rest s : List ℕ) (so : s ≡ blockBytes g c ++ rest) where
   -- each unit's record stands where the one before ends
   unit-stands : (i : ℕ) → i < count c → (more : List ℕ) × (drop (unitsEnd c i) s ≡ unitBytes (rowOf c i) ++ more)
@@ -76,7 +67,7 @@ module _ (g : GroupRecord) (c : Columns) (rest s : List ℕ) (so : s ≡ blockBy
     unit-is : (i : ℕ) → i < count c → unitAt s (unitsEnd c i) ≡ rowOf c i
     unit-is i h =
         let p = unit-stands i h in
-        unit-read s (unitsEnd c i) (p .0) (rowOf c i) (held (sounds i h)) (p .1)
+        unit-read s (unitsEnd c i) (p .0) (rowOf c i) (p .1) (sounds i h)
 
     place-is : (i : ℕ) → i ≤ count c → unitPlace s i ≡ unitsEnd c i
     unfolding placeFrom unitsEnd
@@ -96,7 +87,7 @@ module _ (g : GroupRecord) (c : Columns) (rest s : List ℕ) (so : s ≡ blockBy
       units-in (suc left) i e =
           let h : i < count c = omega arith in
           let p = unit-stands i h in
-          rw (unit-reads s (unitsEnd c i) (p .0) (rowOf c i) (floorAt c i) run limit (p .1) (held (sounds i h)) (fine i h)) (units-in left (suc i) (omega arith))
+          rw (unit-reads s (unitsEnd c i) (p .0) (rowOf c i) (p .1) (sounds i h) (floorAt c i) run limit (fine i h)) (units-in left (suc i) (omega arith))
 
 -- past the other checks, the age decides
 aged-fine : (c : Columns) (day : DayRecord) (i : ℕ) → i < count c → rowChecks c i ≡ Fine → Fresh c day
@@ -125,7 +116,7 @@ module _ (brp zone quarter made : ℕ) (c : Columns) {entry exit : List ℕ} {r 
   pub block-back : Values (groupOver brp zone quarter made c) c exit
   block-back =
       record {
-        group = group-read exit 0 (unitsBytes c (count c) ++ drop n entry) group group-front;
+        group = group-read exit (unitsBytes c (count c) ++ drop n entry) group group-front;
         unit = unit-in group c (drop n entry) exit (in-room .1) sounds;
       }
 
@@ -137,7 +128,7 @@ module _ (brp zone quarter made : ℕ) (c : Columns) {entry exit : List ℕ} {r 
       let many = le-leb (count c) mostUnits (took .group .few) in
       let counted : unitCount (count c) ≡ true = rw (few, many) in
       let all = units-in group c (drop n entry) exit (in-room .1) sounds (day .run) (day .«margin_limit») (λ i h. aged-fine c day i h (took .fine i h) k) (count c) 0 (omega arith) in
-      (group-reads exit (unitsBytes c (count c) ++ drop n entry) group day last group-front counted j, all ∙ ap is (sym (took .bytes)))
+      (group-reads exit (unitsBytes c (count c) ++ drop n entry) group group-front day last counted j, all ∙ ap is (sym (took .bytes)))
 
 -- ---- the result of a block
 module _ (g : GroupResult) (r : Results) (rest s : List ℕ) (so : s ≡ resultBytes g r ++ rest) (h : HeldResults g r) where

@@ -33,9 +33,10 @@ use Rattle.writers.specs.Columns.{Columns, rowOf, count, same, even, flo
 use Rattle.writers.specs.Writing.{roomFor, groupChecks, unitsEnd, unitsChecked, blockLength, writeBlockOf, groupOver, unitsBytes, blockBytes, BlockWritten}
 use Rattle.writers.specs.Trips.{columnsIn}
 use Rattle.writers.proofs.Runs.{run-again}
-use Rattle.writers.proofs.Lengths.{length-unit, length-units, length-block}
+use Rattle.writers.proofs.Lengths.{length-units, length-block}
 use Rattle.writers.proofs.Accepted.{fine-scan}
-use Rattle.writers.proofs.Fields.{group-laid, unit-laid}
+use Rattle.writers.proofs.Fields.{group-laid}
+use Rattle.writers.proofs.UnitBytes.{length-unit, unit-laid}
 use Rattle.writers.proofs.Again.{written}
 
 -- the floor of a unit's number, by the layout
@@ -147,7 +148,7 @@ module _ (s : List ℕ) (small : Bytes s) (day : DayRecord) (last : Last) (g : G
   lays : blockBytes g values ≡ take n s
   unfolding blockBytes unitsBytes
   lays =
-      let first = rw (← passed .value) at (group-laid s small 0 (headed s 0 groupKind groupLength (read .head))) in
+      let first = rw (← passed .value) at (group-laid s small (headed s 0 groupKind groupLength (read .head))) in
       let rest = run-again (λ (i : ℕ). unitBytes (rowOf values i)) s groupLength (count values) (λ i h. unit-again i (rw counted at h)) in
       rw (first, rest, ends, ← length-units values (count values)) (sym (take-add groupLength (length (unitsBytes values (count values))) s))
 

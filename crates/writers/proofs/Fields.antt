@@ -1,92 +1,112 @@
--- Each record by its table: its bytes at any place are read as its values, and the values that stand at a place are laid as the bytes there.
+-- The bytes of each record but the unit: as long as it is, read as its values and accepted wherever they were laid, and laid again from what stands there. No other law of the writers takes them apart.
 use Prim.Native.Nat.{ℕ}
 use mathlib.Core.Path.{_≡_, refl}
 use mathlib.Core.Bool.{true}
 use mathlib.Core.List.{List, [], _∷_, _++_}
-use lib.ListN.{take, drop}
-use mir.Syntax.{w32}
-use mir.Val.{SFits}
-use Rattle.numbers.specs.Bytes.{Bytes}
+use native.Mathlib.Omega.{arith}
+use lib.ListN.{length, take, drop}
+use borrow.Author.Tests.{lt-ltb, eq-eqb}
+use Rattle.numbers.specs.Bytes.{Bytes, bytes16, bytes32}
+use Rattle.terms.specs.Reply.{is, need, next}
+use Rattle.terms.specs.Checks.{unitCount}
 use Rattle.records.specs.declared.day.DayRecord.{DayRecord}
 use Rattle.records.specs.declared.group.GroupRecord.{GroupRecord}
-use Rattle.records.specs.declared.unit.UnitRecord.{UnitRecord}
 use Rattle.records.specs.declared.end.EndRecord.{EndRecord}
 use Rattle.records.specs.declared.group_result.GroupResult.{GroupResult}
 use Rattle.records.specs.declared.unit_result.UnitResult.{UnitResult}
-use Rattle.records.specs.Layouts.{dayKind, dayLength, dayTable, dayAt, dayBytes}
+use Rattle.records.specs.declared.key.Last.{Last}
+use Rattle.records.specs.Layouts.{behind, dayKind, dayLength, dayTable, dayAt, dayBytes}
 use Rattle.records.specs.Layouts.{groupKind, groupLength, groupTable, groupAt, groupBytes}
-use Rattle.records.specs.Layouts.{unitKind, unitLength, unitTable, unitAt, unitBytes, lengthOf}
-use Rattle.records.specs.Inner.{isWhole}
 use Rattle.records.specs.Layouts.{endKind, endLength, endTable, endAt, endBytes}
 use Rattle.records.specs.Layouts.{groupResultKind, groupResultLength, groupResultTable, groupResultAt, groupResultBytes}
 use Rattle.records.specs.Layouts.{unitResultKind, unitResultLength, unitResultTable, unitResultAt, unitResultBytes}
-use Rattle.records.proofs.Heads.{Headed, whole-headed}
-use Rattle.records.proofs.Tiled.{day-tiled, group-tiled, unit-tiled, end-tiled, group-result-tiled, unit-result-tiled}
-use Rattle.writers.specs.Trips.{HeldGroupResult, HeldUnitResult}
-use Rattle.writers.proofs.Tables.{AllHeld, table-back, record-again}
+use Rattle.records.specs.Reading.{dayHeadOf, permitted, dayFieldsOf, dayOf, groupHeadOf, groupFieldsOf, groupOf, endHeadOf, endFieldsOf, endOf}
+use Rattle.records.proofs.Heads.{Headed}
+use Rattle.writers.specs.Trips.{Joins, HeldGroupResult, HeldUnitResult}
+use Rattle.writers.proofs.Tables.{AllHeld, table-back, record-again, head-read}
 
--- signed values that a machine's 32 bits hold
-pub record HeldUnit (u : UnitRecord) : Type 0 where
-  pub n : SFits w32 (u .n .0)
-  pub pc : SFits w32 (u .pc .0)
-  pub step-down : SFits w32 (u .«step_down»)
-  pub step-up : SFits w32 (u .«step_up»)
+-- ---- a day record
+pub length-day : (d : DayRecord) → length (dayBytes d) ≡ dayLength
+unfolding dayBytes behind bytes32 bytes16
+length-day d = refl
 
--- ---- laid, and read
-module _ (s : List ℕ) (at : ℕ) (rest : List ℕ) where
-  pub day-read : (d : DayRecord) → drop at s ≡ dayBytes d ++ rest → dayAt s at ≡ d
+module _ (s rest : List ℕ) (d : DayRecord) (e : s ≡ dayBytes d ++ rest) where
+  pub day-read : dayAt s 0 ≡ d
   unfolding dayAt dayBytes
-  day-read d e =
-      let r = table-back s at (dayKind ∷ []) (dayTable d) dayLength rest (day-tiled d) (tt, (tt, (tt, (tt, (tt, tt))))) e in
+  day-read =
+      let r = table-back s 0 (dayKind ∷ []) (dayTable d) dayLength rest refl (tt, (tt, (tt, (tt, (tt, tt))))) e in
       rw (r .0, r .1 .0, r .1 .1 .0, r .1 .1 .1 .0, r .1 .1 .1 .1 .0)
 
-  pub group-read : (g : GroupRecord) → drop at s ≡ groupBytes g ++ rest → groupAt s at ≡ g
+  day-head : dayHeadOf s ≡ is dayLength
+  unfolding dayBytes behind bytes16 bytes32
+  day-head = head-read s 0 dayKind dayLength (dayBytes d) rest e refl refl (omega arith)
+
+  pub day-reads : permitted (d .quarters) ≡ true → dayOf s ≡ is d
+  unfolding dayOf dayFieldsOf next need
+  day-reads p = simp (day-head, day-read, p)
+
+pub day-laid : (s : List ℕ) → Bytes s → Headed s 0 dayKind dayLength → dayBytes (dayAt s 0) ≡ take dayLength s
+unfolding dayAt dayBytes
+day-laid s small h = record-again s small 0 dayKind dayLength (dayTable (dayAt s 0)) h refl (refl, (refl, (refl, (refl, (refl, tt)))))
+
+-- ---- a group record
+pub length-group : (g : GroupRecord) → length (groupBytes g) ≡ groupLength
+unfolding groupBytes behind bytes32 bytes16
+length-group g = refl
+
+module _ (s rest : List ℕ) (g : GroupRecord) (e : s ≡ groupBytes g ++ rest) where
+  pub group-read : groupAt s 0 ≡ g
   unfolding groupAt groupBytes
-  group-read g e =
-      let r = table-back s at (groupKind ∷ []) (groupTable g) groupLength rest (group-tiled g) (tt, (tt, (tt, (tt, (tt, tt))))) e in
+  group-read =
+      let r = table-back s 0 (groupKind ∷ []) (groupTable g) groupLength rest refl (tt, (tt, (tt, (tt, (tt, tt))))) e in
       rw (r .0, r .1 .0, r .1 .1 .0, r .1 .1 .1 .0, r .1 .1 .1 .1 .0)
 
-  pub unit-read : (u : UnitRecord) → HeldUnit u → drop at s ≡ unitBytes u ++ rest → unitAt s at ≡ u
-  unfolding unitAt unitBytes
-  unit-read u h e =
-      let held : AllHeld (unitTable u) = (tt, (tt, (tt, (tt, (h .n, (h .pc, (h .step-down, (h .step-up, (tt, tt))))))))) in
-      let r = table-back s at (unitKind ∷ []) (unitTable u) unitLength rest (unit-tiled u) held e in
-      let m = r .1 .1 .1 .1 in
-      rw (r .0, r .1 .0, r .1 .1 .0, r .1 .1 .1 .0, m .0, m .1 .0, m .1 .1 .0, m .1 .1 .1 .0, m .1 .1 .1 .1 .0)
+  group-head : groupHeadOf s ≡ is groupLength
+  unfolding groupBytes behind bytes16 bytes32
+  group-head = head-read s 0 groupKind groupLength (groupBytes g) rest e refl refl (omega arith)
 
-  pub end-read : (x : EndRecord) → drop at s ≡ endBytes x ++ rest → endAt s at ≡ x
+  pub group-reads : (day : DayRecord) (last : Last) → unitCount (g .count) ≡ true → Joins g day last → groupOf s day last ≡ is g
+  unfolding groupOf groupFieldsOf next need
+  group-reads day last n j = simp (group-head, group-read, lt-ltb (g .quarter) (day .quarters) (j .early), n, j .above, j .fresh)
+
+pub group-laid : (s : List ℕ) → Bytes s → Headed s 0 groupKind groupLength → groupBytes (groupAt s 0) ≡ take groupLength s
+unfolding groupAt groupBytes
+group-laid s small h = record-again s small 0 groupKind groupLength (groupTable (groupAt s 0)) h refl (refl, (refl, (refl, (refl, (refl, tt)))))
+
+-- ---- an end record
+pub length-end : (e : EndRecord) → length (endBytes e) ≡ endLength
+unfolding endBytes behind bytes32 bytes16
+length-end e = refl
+
+module _ (s rest : List ℕ) (x : EndRecord) (e : s ≡ endBytes x ++ rest) where
+  pub end-read : endAt s 0 ≡ x
   unfolding endAt endBytes
-  end-read x e = rw (table-back s at (endKind ∷ []) (endTable x) endLength rest (end-tiled x) (tt, tt) e .0)
+  end-read = rw (table-back s 0 (endKind ∷ []) (endTable x) endLength rest refl (tt, tt) e .0)
 
+  end-head : endHeadOf s ≡ is endLength
+  unfolding endBytes behind bytes32 bytes16
+  end-head = head-read s 0 endKind endLength (endBytes x) rest e refl refl (omega arith)
+
+  pub end-reads : endOf s (x .groups) ≡ is x
+  unfolding endOf endFieldsOf next need
+  end-reads = simp (end-head, end-read, eq-eqb (x .groups) (x .groups) refl)
+
+pub end-laid : (s : List ℕ) → Bytes s → Headed s 0 endKind endLength → endBytes (endAt s 0) ≡ take endLength s
+unfolding endAt endBytes
+end-laid s small h = record-again s small 0 endKind endLength (endTable (endAt s 0)) h refl (refl, tt)
+
+-- ---- results
+module _ (s : List ℕ) (at : ℕ) (rest : List ℕ) where
   pub group-result-read : (g : GroupResult) → HeldGroupResult g → drop at s ≡ groupResultBytes g ++ rest → groupResultAt s at ≡ g
   unfolding groupResultAt groupResultBytes
   group-result-read g h e =
       let held : AllHeld (groupResultTable g) = (tt, (tt, (tt, (tt, (tt, (h .p, (h .s1, (h .s2, (h .s3, (h .balance, tt)))))))))) in
-      let r = table-back s at (groupResultKind ∷ []) (groupResultTable g) groupResultLength rest (group-result-tiled g) held e in
+      let r = table-back s at (groupResultKind ∷ []) (groupResultTable g) groupResultLength rest refl held e in
       let m = r .1 .1 .1 .1 .1 in
       rw (r .0, r .1 .0, r .1 .1 .0, r .1 .1 .1 .0, r .1 .1 .1 .1 .0, m .0, m .1 .0, m .1 .1 .0, m .1 .1 .1 .0, m .1 .1 .1 .1 .0)
 
   pub unit-result-read : (u : UnitResult) → HeldUnitResult u → drop at s ≡ unitResultBytes u ++ rest → unitResultAt s at ≡ u
   unfolding unitResultAt unitResultBytes
   unit-result-read u h e =
-      let r = table-back s at (unitResultKind ∷ []) (unitResultTable u) unitResultLength rest (unit-result-tiled u) (tt, (tt, (h .n0, (h .n1, (h .n2, (h .n3, tt)))))) e in
+      let r = table-back s at (unitResultKind ∷ []) (unitResultTable u) unitResultLength rest refl (tt, (tt, (h .n0, (h .n1, (h .n2, (h .n3, tt)))))) e in
       rw (r .0, r .1 .0, r .1 .1 .0, r .1 .1 .1 .0, r .1 .1 .1 .1 .0, r .1 .1 .1 .1 .1 .0)
-
--- ---- read, and laid
-module _ (s : List ℕ) (small : Bytes s) (at : ℕ) where
-  pub day-laid : Headed s at dayKind dayLength → dayBytes (dayAt s at) ≡ take dayLength (drop at s)
-  unfolding dayAt dayBytes
-  day-laid h = record-again s small at dayKind dayLength (dayTable (dayAt s at)) h refl (refl, (refl, (refl, (refl, (refl, tt)))))
-
-  pub group-laid : Headed s at groupKind groupLength → groupBytes (groupAt s at) ≡ take groupLength (drop at s)
-  unfolding groupAt groupBytes
-  group-laid h = record-again s small at groupKind groupLength (groupTable (groupAt s at)) h refl (refl, (refl, (refl, (refl, (refl, tt)))))
-
-  pub unit-laid : isWhole s at ≡ true → unitBytes (unitAt s at) ≡ take (lengthOf (unitAt s at)) (drop at s)
-  unfolding unitAt unitBytes
-  unit-laid w =
-      record-again s small at unitKind unitLength (unitTable (unitAt s at)) (whole-headed s at unitKind unitLength w) refl (refl, (refl, (refl, (refl, (refl, (refl, (refl, (refl, (refl, tt)))))))))
-
-  pub end-laid : Headed s at endKind endLength → endBytes (endAt s at) ≡ take endLength (drop at s)
-  unfolding endAt endBytes
-  end-laid h = record-again s small at endKind endLength (endTable (endAt s at)) h refl (refl, tt)

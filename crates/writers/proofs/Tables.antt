@@ -6,15 +6,17 @@ use mathlib.Core.List.{List, [], _∷_, _++_, append-assoc, append-nil}
 use native.Mathlib.Nat.{add-assoc}
 use native.Mathlib.Numerals.{add-one}
 use native.Mathlib.Omega.{arith}
-use lib.ListN.{length, take, drop, length-append}
+use lib.ListN.{length, take, drop, length-append, length-drop, List·getD-append}
 use lib.Seq.{getD-drop, drop-drop, drop-cons, drop-append-seam, take-add}
 use lib.Dec.{eqb}
-use borrow.Author.Tests.{eqb-true}
+use borrow.Author.Tests.{eqb-true, lt-ltb, le-leb, eq-eqb}
 use mir.Syntax.{w32}
 use mir.Val.{SFits}
 use Rattle.numbers.specs.Bytes.{byteAt, Bytes, be16, be32, bytes16, bytes32, signed32}
 use Rattle.numbers.proofs.Trips.{back16, back32, again16, again32, below32, signed-bits, bits-signed}
+use Rattle.terms.specs.Reply.{is, need}
 use Rattle.records.specs.Layouts.{Width, u8, u16, u32, i32, size, Value, valueOf, bytesOf, valueAt, Entry, behind, tiles}
+use Rattle.records.specs.Reading.{headOf}
 use Rattle.records.proofs.Heads.{Headed}
 
 -- a value that is read back from its bytes: only a signed one can be out of reach
@@ -153,3 +155,14 @@ module _ (s : List ℕ) (small : Bytes s) (at : ℕ) where
       let whole : take len (drop at s) ≡ kind ∷ take (len - 1) (drop (at + 1) s) =
       ap (λ (k : ℕ). take k (drop at s)) n ∙ taken s small at (len - 1) (omega (arith, h .long)) ∙ rw (h .first) in
       table-again (kind ∷ []) es 1 len t st (h .long) ∙ sym whole
+
+-- the head of what was laid
+pub head-read : (s : List ℕ) (at kind len : ℕ) (bytes rest : List ℕ) → drop at s ≡ bytes ++ rest → byteAt bytes 0 ≡ kind → length bytes ≡ len → 1 ≤ len
+    → headOf s at kind len ≡ is (at + len)
+unfolding headOf need
+head-read s at kind len bytes rest e k n h =
+    let l : length s - at ≡ len + length rest = sym (length-drop at s) ∙ ap length e ∙ length-append bytes rest ∙ omega arith in
+    let z : at + 0 ≡ at = omega arith in
+    let first : byteAt s at ≡ kind =
+    ap (byteAt s) (sym z) ∙ sym (getD-drop at s 0 0) ∙ ap (λ (l : List ℕ). byteAt l 0) e ∙ List·getD-append bytes rest 0 0 (omega arith) ∙ k in
+    simp (lt-ltb at (length s) (omega arith), eq-eqb (byteAt s at) kind first, le-leb (at + len) (length s) (omega arith))

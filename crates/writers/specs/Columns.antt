@@ -58,12 +58,10 @@ unfoldable pub same : ℕ → List ℕ → Bool
 same n [] = true
 same n (m ∷ ms) = eqb m n && same n ms
 
--- columns of equal length
-unfoldable pub even : Columns → Bool
-even c =
-    same
-    (count c)
-    (length (c .class)
+-- the lengths of the other columns
+abbrev pub others : Columns → List ℕ
+others c =
+    length (c .class)
     ∷ length (c .coincide)
     ∷ length (c .nominated)
     ∷ length (c .n)
@@ -71,7 +69,11 @@ even c =
     ∷ length (c .step-down)
     ∷ length (c .step-up)
     ∷ length (c .made)
-    ∷ [])
+    ∷ []
+
+-- columns of equal length
+unfoldable pub even : Columns → Bool
+even c = same (count c) (others c)
 
 -- the least number that a unit may have: any for the first, and then one above the number before
 unfoldable pub floorAt : Columns → ℕ → ℕ

@@ -1,25 +1,22 @@
 -- What inner functions ask of each other: no promise rests on it.
 use Prim.Native.Nat.{ℕ, _+_, _≤_}
-use mathlib.Core.List.{List, _++_}
+use mathlib.Core.List.{List, [], _∷_, _++_}
 use lib.IntN.{ℤ}
-use lib.ListN.{length}
 use Rattle.numbers.specs.Bytes.{bytes32, bits32}
 use Rattle.terms.specs.Checks.{mostUnits}
 use Rattle.records.specs.Layouts.{u8, u16, i32, size}
-use Rattle.writers.specs.Columns.{Columns}
+use Rattle.writers.specs.Columns.{Columns, count, others}
+
+-- each of some lengths is enough for so many units
+abbrev pub Enough : ℕ → List ℕ → Type 0
+Enough units [] = Unit
+Enough units (m ∷ ms) = (units ≤ m) × Enough units ms
 
 -- the columns are long enough for so many units, no more than a group may have
 pub record Long (units : ℕ) (c : Columns) : Type 0 where
   pub few : units ≤ mostUnits
-  pub number : units ≤ length (c .number)
-  pub class : units ≤ length (c .class)
-  pub coincide : units ≤ length (c .coincide)
-  pub nominated : units ≤ length (c .nominated)
-  pub n : units ≤ length (c .n)
-  pub pc : units ≤ length (c .pc)
-  pub step-down : units ≤ length (c .step-down)
-  pub step-up : units ≤ length (c .step-up)
-  pub made : units ≤ length (c .made)
+  pub number : units ≤ count c
+  pub others : Enough units (others c)
 
 -- how many bytes parts of a record have: a kind and a number, three fields of a byte each, four of signed kWh
 abbrev pub headLength : ℕ

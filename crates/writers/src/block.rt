@@ -1,6 +1,5 @@
 // The writer of a block: one group record and its units, given as columns.
 ghost use mathlib.Core.Path.{_≡_};
-ghost use mathlib.Core.List.{[], _∷_};
 ghost use Rattle.terms.specs.Refusals.{answer};
 ghost use Rattle.writers.specs.Columns.{columns, same};
 ghost use Rattle.writers.specs.Writing.{groupChecks, writeBlockOf, BlockWritten};
@@ -13,42 +12,18 @@ use records::group::GroupRecord;
 use terms::refusal::Answer;
 use terms::refusal::Why;
 
-// Whether nine lengths are all the same.
-fn are_same(
-    number: usize,
-    class: usize,
-    coincide: usize,
-    nominated: usize,
-    n: usize,
-    pc: usize,
-    step_down: usize,
-    step_up: usize,
-    made: usize,
-) -> bool
-    ensures { λ r. ⌜ r ≡ same number (class ∷ coincide ∷ nominated ∷ n ∷ pc ∷ «step_down» ∷ «step_up» ∷ made ∷ []) ⌝ }
+// Whether the lengths of the other columns are that of the first.
+fn are_same(number: usize, others: &[usize]) -> bool
+    ensures { λ r. ⌜ r ≡ same number (now (others .entry)) ⌝ }
 {
-    if class != number {
-        return false;
+    let mut i = 0;
+    while i < others.len() {
+        if others[i] != number {
+            return false;
+        }
+        i += 1;
     }
-    if coincide != number {
-        return false;
-    }
-    if nominated != number {
-        return false;
-    }
-    if n != number {
-        return false;
-    }
-    if pc != number {
-        return false;
-    }
-    if step_down != number {
-        return false;
-    }
-    if step_up != number {
-        return false;
-    }
-    made == number
+    true
 }
 
 // The group's own fields: 4, 5.
@@ -80,8 +55,7 @@ fn check_block(
 ) -> Answer
     ensures { λ r. ⌜ answer r ≡ writeBlockOf quarter (columns (now (number .entry)) (now (class .entry)) (now (coincide .entry)) (now (nominated .entry)) (now (n .entry)) (now (pc .entry)) (now («step_down» .entry)) (now («step_up» .entry)) (now (made .entry))) room ⌝ }
 {
-    if !are_same(
-        number.len(),
+    let others = [
         class.len(),
         coincide.len(),
         nominated.len(),
@@ -90,7 +64,8 @@ fn check_block(
         step_down.len(),
         step_up.len(),
         made.len(),
-    ) {
+    ];
+    if !are_same(number.len(), &others) {
         return refused(Why::Columns);
     }
     let g = check_group(quarter, number.len());

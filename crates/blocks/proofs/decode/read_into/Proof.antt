@@ -4,21 +4,20 @@ use mathlib.Core.Path.{_≡_, refl, sym, ap, _∙_}
 use mathlib.Core.Bool.{Bool, true, false, false≢true}
 use native.Mathlib.Omega.{arith}
 use borrow.Author.Needs.{needs}
-use borrow.Author.Tests.{leb-true, not-true, not-false}
+use borrow.Author.Tests.{not-true, not-false}
 use denote.Ref.{now}
 use lib.IntN.{negℤ}
-use lib.ListN.{length}
 use mir.Syntax.{w32}
 use mir.Val.{toZ, ofZ}
 use mir.Facts.{toZ-ofZ}
 use Rattle.numbers.specs.Choice.{pick}
 use Rattle.numbers.specs.Sum.{bit}
-use Rattle.numbers.proofs.Choices.{and-both}
 use Rattle.terms.proofs.Considered.{considered-by}
-use Rattle.records.specs.Layouts.{unitLength, unitAt}
+use Rattle.records.specs.Layouts.{unitAt, lengthOf}
 use Rattle.records.specs.Reading.{unitIn}
 use Rattle.records.specs.Decoding.{unitN0}
 use Rattle.records.specs.Inner.{isWhole, marksPass}
+use Rattle.records.proofs.UnitHeads.{whole-long}
 use Rattle.records.proofs.Marks.{marked, read-whole, read-marked}
 use Rattle.blocks.specs.declared.decode.Reading.{Reading}
 use Rattle.blocks.specs.Blocks.{blockCount}
@@ -75,8 +74,7 @@ unit-fields-requires : tie.Need-unit-fields-requires Inv-loop μ-loop
 unit-fields-requires c κs =
     let v = c .before .before .before .loop in
     let x = c .before .before .before .before .before .before .before .args in
-    let yes = sym (c .before .is-whole .ensures) ∙ not-false _ (c .if1 .left) in
-    leb-true (v .here + unitLength) (length (now (x .s))) (and-both _ _ yes .0)
+    whole-long (now (x .s)) (v .here) (sym (c .before .is-whole .ensures) ∙ not-false _ (c .if1 .left))
 
 marks-pass-requires : tie.Need-marks-pass-requires Inv-loop μ-loop
 marks-pass-requires c κs = search needs
@@ -241,8 +239,7 @@ add-here c =
     let l = below _ _ _ _ _ _ _ _ (v .inv) (test .loop-test .taken) in
     let s = test .before .before .before .before .before in
     let yes = sym (unit .before .before .is-whole .ensures) ∙ not-false _ (unit .before .if1 .left) in
-    let inside = leb-true (v .here + unitLength) (length (now (s .args .s))) (and-both _ _ yes .0) in
-    omega (arith, c .length .ensures, inside, s .good .0)
+    omega (arith, c .length .ensures, ap lengthOf (unit .unit-fields .ensures), whole-long (now (s .args .s)) (v .here) yes, s .good .0)
 
 add-i : tie.Need-add-i Inv-loop μ-loop
 add-i c =

@@ -5,10 +5,12 @@ use native.Mathlib.Omega.{arith}
 use denote.Ref.{now}
 use borrow.Author.Needs.{needs}
 use Rattle.terms.proofs.FirstRefused.{Left, start, turn, stop, end}
+use Rattle.records.specs.Layouts.{lengthOf}
 use Rattle.records.specs.Answers.{unitReply}
 use Rattle.records.specs.Reading.{unitsOf}
 use Rattle.records.proofs.Turns.{unitsAfter, units-steps}
 use Rattle.records.proofs.UnitHeads.{unit-long}
+use Rattle.records.proofs.Accepted.{unit-is}
 use Rattle.records.proofs.units.units_from.Statement.{statement}
 use Rattle.records.proofs.units.units_from.Tie as tie
 
@@ -64,7 +66,8 @@ add-here c =
     let start = test .before .before .before in
     let x = start .args in
     let e = sym (unit .unit-at .ensures) ∙ ap unitReply (read .r .given .1) in
-    omega (arith, c .length .ensures, unit-long (now (x .s)) (v .here) (v .floor) (x .run) (x .limit) e, start .good .0)
+    let is = ap lengthOf (unit-is (now (x .s)) (v .here) (v .floor) (x .run) (x .limit) e .1) in
+    omega (arith, c .length .ensures, is, unit-long (now (x .s)) (v .here) (v .floor) (x .run) (x .limit) e, start .good .0)
 
 add-i : tie.Need-add-i Inv-loop μ-loop
 add-i c = search needs
@@ -80,7 +83,7 @@ loop-again c =
     let v = test .before .loop in
     let x = test .before .before .before .args in
     let e = sym (unit .unit-at .ensures) ∙ ap unitReply (read .r .given .1) in
-    rw (c .length .ensures)
+    rw (c .length .ensures ∙ ap lengthOf (unit-is (now (x .s)) (v .here) (v .floor) (x .run) (x .limit) e .1))
     (turn (units-steps (now (x .s)) (x .run) (x .limit)) (x .count) (v .i) (v .inv) (test .loop-test .taken) e)
 
 returns-2 : tie.Need-returns-2 Inv-loop μ-loop

@@ -1,55 +1,70 @@
--- The first length that differs makes the lengths differ; past the last but one, the last decides.
-use mathlib.Core.Bool.{and-true}
-use borrow.Author.Tests.{eq-eqb, ne-eqb}
+-- What is left of the lengths is the same exactly where all of them are.
+use Prim.Native.Nat.{_≤_, _-_}
+use mathlib.Core.Path.{_≡_, refl, sym, _∙_}
+use native.Mathlib.Numerals.{add-one}
+use native.Mathlib.Omega.{arith}
+use borrow.Author.Tests.{ne-eqb, eq-eqb}
+use lib.ListN.{length, drop, drop-of-length-le}
+use lib.Seq.{drop-cons}
+use denote.Ref.{now}
 use Rattle.writers.specs.Columns.{same}
 use Rattle.writers.proofs.block.are_same.Statement.{statement}
 use Rattle.writers.proofs.block.are_same.Tie as tie
 
-returns : tie.Need-returns
-unfolding same
-returns c = simp (ne-eqb _ _ (c .if1 .taken))
+abbrev Inv-loop : tie.InvT-loop
+Inv-loop number others i₀ i = (i ≤ length others) × (same number others ≡ same number (drop i others))
 
-returns-2 : tie.Need-returns-2
-unfolding same
-returns-2 c = simp (eq-eqb _ _ (c .before .if1 .left), ne-eqb _ _ (c .if2 .taken))
+abbrev μ-loop : tie.MeasureT-loop
+μ-loop number others i₀ i = length others - i
 
-returns-3 : tie.Need-returns-3
-unfolding same
-returns-3 c = simp (eq-eqb _ _ (c .before .before .if1 .left), eq-eqb _ _ (c .before .if2 .left), ne-eqb _ _ (c .if3 .taken))
+loop-holds : tie.Need-loop-holds Inv-loop μ-loop
+loop-holds c = (omega arith, refl)
 
-returns-4 : tie.Need-returns-4
-unfolding same
-returns-4 c =
-    let test1 = c .before .before .before in
-    simp (eq-eqb _ _ (test1 .if1 .left), eq-eqb _ _ (c .before .before .if2 .left), eq-eqb _ _ (c .before .if3 .left), ne-eqb _ _ (c .if4 .taken))
+mul-if1 : tie.Need-mul-if1 Inv-loop μ-loop
+mul-if1 c = omega arith
 
-returns-5 : tie.Need-returns-5
-unfolding same
-returns-5 c =
-    let test2 = c .before .before .before in
-    simp (eq-eqb _ _ (test2 .before .if1 .left), eq-eqb _ _ (test2 .if2 .left), eq-eqb _ _ (c .before .before .if3 .left), eq-eqb _ _ (c .before .if4 .left), ne-eqb _ _ (c .if5 .taken))
+shared-slice-read-if1 : tie.Need-shared-slice-read-if1 Inv-loop μ-loop
+shared-slice-read-if1 c = omega arith
 
-returns-6 : tie.Need-returns-6
+returns : tie.Need-returns Inv-loop μ-loop
 unfolding same
-returns-6 c =
-    let test3 = c .before .before .before in
-    simp (eq-eqb _ _ (test3 .before .before .if1 .left), eq-eqb _ _ (test3 .before .if2 .left), eq-eqb _ _ (test3 .if3 .left), eq-eqb _ _ (c .before .before .if4 .left), eq-eqb _ _ (c .before .if5 .left), ne-eqb _ _ (c .if6 .taken))
+returns c =
+    let test = c .before .before in
+    let l = test .before in
+    let others = now (l .before .args .others) in
+    sym (l .loop .inv .1 ∙ simp (drop-cons others (l .loop .i) 0 (test .loop-test .taken), ne-eqb _ _ (c .if1 .taken)))
 
-returns-7 : tie.Need-returns-7
-unfolding same
-returns-7 c =
-    let test4 = c .before .before .before in
-    let test1 = test4 .before .before .before in
-    simp (eq-eqb _ _ (test1 .if1 .left), eq-eqb _ _ (test4 .before .before .if2 .left), eq-eqb _ _ (test4 .before .if3 .left), eq-eqb _ _ (test4 .if4 .left), eq-eqb _ _ (c .before .before .if5 .left), eq-eqb _ _ (c .before .if6 .left), ne-eqb _ _ (c .if7 .taken))
+add-i : tie.Need-add-i Inv-loop μ-loop
+add-i c = omega arith
 
-returns-8 : tie.Need-returns-8
+loop-less : tie.Need-loop-less Inv-loop μ-loop
+loop-less c = omega arith
+
+loop-again : tie.Need-loop-again Inv-loop μ-loop
 unfolding same
-returns-8 c =
-    let test4 = c .before .before .before in
-    let test1 = test4 .before .before .before in
-    simp (eq-eqb _ _ (test1 .if1 .left), eq-eqb _ _ (test4 .before .before .if2 .left), eq-eqb _ _ (test4 .before .if3 .left), eq-eqb _ _ (test4 .if4 .left), eq-eqb _ _ (c .before .before .if5 .left), eq-eqb _ _ (c .before .if6 .left), eq-eqb _ _ (c .if7 .left), and-true)
+loop-again c =
+    let test = c .before .before in
+    let l = test .before in
+    let others = now (l .before .args .others) in
+    (omega arith, l .loop .inv .1 ∙ simp (drop-cons others (l .loop .i) 0 (test .loop-test .taken), eq-eqb _ _ (c .if1 .left), add-one (l .loop .i)))
+
+returns-2 : tie.Need-returns-2 Inv-loop μ-loop
+unfolding same
+returns-2 c =
+    let l = c .before in
+    sym (l .loop .inv .1 ∙ simp (drop-of-length-le (now (l .before .args .others)) (c .loop-test .left)))
 
 pub are-same-spec : {M : Type 1} → statement M
 are-same-spec =
     tie.close
-    (tie.spec returns returns-2 returns-3 returns-4 returns-5 returns-6 returns-7 returns-8)
+    (tie.spec
+    Inv-loop
+    μ-loop
+    loop-holds
+    mul-if1
+    shared-slice-read-if1
+    returns
+    add-i
+    loop-less
+    loop-again
+    returns-2)

@@ -1,5 +1,5 @@
 -- The block writer: what is refused leaves the room as it was, and what is accepted lies at the front of the room.
-use Prim.Native.Nat.{_≤_}
+use Prim.Native.Nat.{ℕ, _≤_}
 use mathlib.Core.Path.{sym, ap, _∙_}
 use native.Mathlib.Omega.{arith}
 use lib.ListN.{length}
@@ -9,40 +9,40 @@ use Rattle.numbers.proofs.Laid.{laid-next}
 use Rattle.terms.specs.Refusals.{answer}
 use Rattle.records.specs.declared.group.GroupRecord.{GroupRecord}
 use Rattle.records.specs.Layouts.{groupLength, groupBytes}
-use Rattle.writers.specs.Columns.{Columns, columns, count}
+use Rattle.writers.specs.Columns.{Columns, count}
 use Rattle.writers.specs.Writing.{groupOver, unitsBytes, blockBytes, blockLength}
-use Rattle.writers.proofs.Lengths.{length-group, length-units, length-block, end-from}
+use Rattle.writers.proofs.Lengths.{length-units, length-block, end-from}
+use Rattle.writers.proofs.Fields.{length-group}
 use Rattle.writers.proofs.Accepted.{Accepted, accepted, long}
 use Rattle.writers.proofs.Writes.{refuses, writes}
 use Rattle.writers.proofs.block.write_block.Statement.{statement}
 use Rattle.writers.proofs.block.write_block.Tie as tie
 
--- the function's entry, from the check; the columns and the group that it was given
+-- the function's entry, from the check
 abbrev entry : tie.After-check-block → tie.Start
 entry c = c .before .before .before .before .before .before .before
 
-abbrev given : tie.After-check-block → Columns
-given c =
-    let a = entry c .args in
-    columns (now (a .number)) (now (a .class)) (now (a .coincide)) (now (a .nominated)) (now (a .n)) (now (a .pc)) (now (a .step-down)) (now (a .step-up)) (now (a .margins-made))
+-- the columns that passed the check, and the group over them
+abbrev passed-by : {quarter : ℕ} {k : Columns} {room n : ℕ} → Accepted quarter k room n → Columns
+passed-by {k = k} v = k
 
-abbrev group : tie.After-check-block → GroupRecord
+abbrev given : tie.After-enum-told → Columns
+given c = passed-by (accepted _ _ _ (sym (c .before .before .check-block .ensures) ∙ ap answer (c .enum-told .given .1)))
+
+abbrev group : tie.After-enum-told → GroupRecord
 group c =
-    let a = entry c .args in
+    let a = entry (c .before .before) .args in
     groupOver (a .brp) (a .zone) (a .quarter) (a .made) (given c)
 
--- past the check
-took : (c : tie.After-enum-told)
-    → Accepted (entry (c .before .before) .args .quarter) (given (c .before .before)) (length (now (entry (c .before .before) .args .room))) (c .enum-told .given .0 .0)
-took c = accepted _ (given (c .before .before)) _ (sym (c .before .before .check-block .ensures) ∙ ap answer (c .enum-told .given .1))
+took : (c : tie.After-enum-told) → Accepted (entry (c .before .before) .args .quarter) (given c) (length (now (entry (c .before .before) .args .room))) (c .enum-told .given .0 .0)
+took c = accepted _ _ _ (sym (c .before .before .check-block .ensures) ∙ ap answer (c .enum-told .given .1))
 
 -- the room for the group record, and for the whole
 fits : (c : tie.After-enum-told)
-    → (groupLength ≤ length (now (entry (c .before .before) .args .room))) × (blockLength (given (c .before .before)) ≤ length (now (entry (c .before .before) .args .room)))
+    → (groupLength ≤ length (now (entry (c .before .before) .args .room))) × (blockLength (given c) ≤ length (now (entry (c .before .before) .args .room)))
 fits c =
     let v = took c in
-    let k = given (c .before .before) in
-    (omega (arith, v .bytes, v .enough, end-from k (count k)), omega (arith, v .bytes, v .enough))
+    (omega (arith, v .bytes, v .enough, end-from (given c) (count (given c))), omega (arith, v .bytes, v .enough))
 
 check-block-requires : tie.Need-check-block-requires
 check-block-requires c κs = search needs
@@ -57,7 +57,7 @@ returns : tie.Need-returns
 returns c =
     let check = c .before .before in
     let told = c .enum-told2 .given .1 in
-    refuses (blockBytes (group check) (given check)) (now (entry check .args .room)) _ told (sym (check .check-block .ensures) ∙ ap answer told)
+    refuses _ _ _ told (sym (check .check-block .ensures) ∙ ap answer told)
 
 cast-new : tie.Need-cast-new
 cast-new c = omega (arith, took (c .before) .group .few)
@@ -73,7 +73,7 @@ lay-units-requires c κs =
     let new = c .before .before .before .before in
     let passed = new .before .before in
     let v = took passed in
-    (long (given (passed .before .before)) (v .evenly) (v .group .few), omega (arith, fits passed .1))
+    (long (given passed) (v .evenly) (v .group .few), omega (arith, fits passed .1))
 
 same-length : tie.Need-same-length
 same-length c = search needs
@@ -85,8 +85,8 @@ returns-2 c =
     let first = units .before .before .before .before in
     let passed = first .before .before .before in
     let check = passed .before .before in
-    let k = given check in
-    let g = group check in
+    let k = given passed in
+    let g = group passed in
     let room = now (entry check .args .room) in
     let told = passed .enum-told .given .1 in
     let n = length-group g in

@@ -9,7 +9,8 @@ use borrow.Author.Needs.{needs}
 use Rattle.records.specs.Layouts.{groupLength, unitBytes, lengthOf}
 use Rattle.writers.specs.Columns.{Columns, columns, rowOf}
 use Rattle.writers.specs.Writing.{unitsBytes}
-use Rattle.writers.proofs.Lengths.{length-unit, length-units}
+use Rattle.writers.proofs.Lengths.{length-units}
+use Rattle.writers.proofs.UnitBytes.{length-unit}
 use Rattle.writers.proofs.Accepted.{long-below}
 use Rattle.writers.proofs.Runs.{Going, start, next-fits, turn, end}
 use Rattle.writers.proofs.columns.lay_units.Statement.{statement}
