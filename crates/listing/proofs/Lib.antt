@@ -1,7 +1,7 @@
 -- Laws of the day list.
 pub mod Digits
 pub mod Spelling
-pub mod Figures
+pub mod Pairs
 pub mod Parts
 pub mod Signs
 pub mod Replies

@@ -1,9 +1,11 @@
 // The parts of a line: its word, a field after one space, the line feed.
+ghost use mathlib.Core.Path.{_≡_};
 ghost use mathlib.Core.List.{[], _∷_};
 ghost use Prim.Native.Nat.{_+_, _≤_};
 ghost use lib.ListN.{length};
 ghost use Rattle.listing.specs.Lines.{decimal, signedDecimal, u8Field, u16Field, u32Field, u64Field, i32Field};
-ghost use Rattle.listing.specs.Inner.{Lays};
+ghost use Rattle.listing.specs.Inner.{Lays, digitPairs};
+use crate::number::ZERO;
 use crate::number::digit_count;
 use crate::number::lay_digits;
 use crate::number::lay_few;
@@ -36,45 +38,45 @@ pub fn lay_word(out: &mut [u8], at: usize, word: &[u8]) -> usize
     at + i
 }
 
-fn lay_number(out: &mut [u8], at: usize, n: u32) -> usize
-    requires { ⌜ at + length (decimal n) ≤ length (now out) ⌝ }
-    ensures { λ r. ⌜ Lays (now (out .entry)) at (decimal n) (length (decimal n)) r (now (out .exit)) ⌝ }
+// A byte, and a number behind it.
+fn lay_number(out: &mut [u8], at: usize, front: u8, n: u32, pairs: &[u16]) -> usize
+    requires { ⌜ (at + 1 + length (decimal n) ≤ length (now out)) × (now pairs ≡ digitPairs) ⌝ }
+    ensures { λ r. ⌜ Lays (now (out .entry)) at (front ∷ decimal n) (1 + length (decimal n)) r (now (out .exit)) ⌝ }
 {
     if n < 10000 {
-        return lay_few(out, at, n);
+        return lay_few(out, at, front, n, pairs);
     }
     let count = digit_count(n);
-    lay_digits(out, at, count, n as u64);
-    at + count
+    lay_u8(out, at, front);
+    lay_digits(out, at + 1, count, n as u64);
+    at + 1 + count
 }
 
-fn lay_field(out: &mut [u8], at: usize, n: u32) -> usize
-    requires { ⌜ at + 1 + length (decimal n) ≤ length (now out) ⌝ }
-    ensures { λ r. ⌜ Lays (now (out .entry)) at (32 ∷ decimal n) (1 + length (decimal n)) r (now (out .exit)) ⌝ }
-{
-    lay_u8(out, at, SPACE);
-    lay_number(out, at + 1, n)
-}
-
-pub fn lay_u8_field(out: &mut [u8], at: usize, n: u8) -> usize
-    requires { ⌜ at + u8Field ≤ length (now out) ⌝ }
+// Nearly all of these numbers have one digit.
+pub fn lay_u8_field(out: &mut [u8], at: usize, n: u8, pairs: &[u16]) -> usize
+    requires { ⌜ (at + u8Field ≤ length (now out)) × (now pairs ≡ digitPairs) ⌝ }
     ensures { λ r. ⌜ Lays (now (out .entry)) at (32 ∷ decimal n) u8Field r (now (out .exit)) ⌝ }
 {
-    lay_field(out, at, n as u32)
+    if n < 10 {
+        lay_u8(out, at, SPACE);
+        lay_u8(out, at + 1, ZERO + n);
+        return at + 2;
+    }
+    lay_number(out, at, SPACE, n as u32, pairs)
 }
 
-pub fn lay_u16_field(out: &mut [u8], at: usize, n: u16) -> usize
-    requires { ⌜ at + u16Field ≤ length (now out) ⌝ }
+pub fn lay_u16_field(out: &mut [u8], at: usize, n: u16, pairs: &[u16]) -> usize
+    requires { ⌜ (at + u16Field ≤ length (now out)) × (now pairs ≡ digitPairs) ⌝ }
     ensures { λ r. ⌜ Lays (now (out .entry)) at (32 ∷ decimal n) u16Field r (now (out .exit)) ⌝ }
 {
-    lay_field(out, at, n as u32)
+    lay_number(out, at, SPACE, n as u32, pairs)
 }
 
-pub fn lay_u32_field(out: &mut [u8], at: usize, n: u32) -> usize
-    requires { ⌜ at + u32Field ≤ length (now out) ⌝ }
+pub fn lay_u32_field(out: &mut [u8], at: usize, n: u32, pairs: &[u16]) -> usize
+    requires { ⌜ (at + u32Field ≤ length (now out)) × (now pairs ≡ digitPairs) ⌝ }
     ensures { λ r. ⌜ Lays (now (out .entry)) at (32 ∷ decimal n) u32Field r (now (out .exit)) ⌝ }
 {
-    lay_field(out, at, n)
+    lay_number(out, at, SPACE, n, pairs)
 }
 
 pub fn lay_u64_field(out: &mut [u8], at: usize, n: u64) -> usize
@@ -87,14 +89,16 @@ pub fn lay_u64_field(out: &mut [u8], at: usize, n: u64) -> usize
     at + 1 + count
 }
 
-// The sign is laid in any case, without a branch: the digits of a number that is not negative are laid over it.
-pub fn lay_i32_field(out: &mut [u8], at: usize, z: i32) -> usize
-    requires { ⌜ at + i32Field ≤ length (now out) ⌝ }
+pub fn lay_i32_field(out: &mut [u8], at: usize, z: i32, pairs: &[u16]) -> usize
+    requires { ⌜ (at + i32Field ≤ length (now out)) × (now pairs ≡ digitPairs) ⌝ }
     ensures { λ r. ⌜ Lays (now (out .entry)) at (32 ∷ signedDecimal z) i32Field r (now (out .exit)) ⌝ }
 {
-    lay_u8(out, at, SPACE);
-    lay_u8(out, at + 1, MINUS);
-    lay_number(out, at + 1 + (z < 0) as usize, magnitude(z))
+    let size = magnitude(z);
+    if z < 0 {
+        lay_u8(out, at, SPACE);
+        return lay_number(out, at + 1, MINUS, size, pairs);
+    }
+    lay_number(out, at, SPACE, size, pairs)
 }
 
 pub fn lay_feed(out: &mut [u8], at: usize) -> usize

@@ -1,4 +1,5 @@
 // The lines of the day list, each laid at a place of a room.
+ghost use mathlib.Core.Path.{_≡_};
 ghost use mathlib.Core.List.{[], _∷_};
 ghost use Prim.Native.Nat.{_+_, _*_, _≤_};
 ghost use lib.ListN.{length};
@@ -8,7 +9,7 @@ ghost use Rattle.terms.specs.Checks.{mostUnits};
 ghost use Rattle.writers.specs.Results.{resultLength};
 ghost use Rattle.writers.specs.Runs.{run};
 ghost use Rattle.listing.specs.Lines.{decimal, signedDecimal, spaced, dayLine, groupLine, unitLine, unitLineAt, endLine, refusedLine, resultLines, i32Field, longestDayLine, longestEndLine, longestRefusedLine, longestGroupFront, longestGroupLine, longestUnitLine, longestLines};
-ghost use Rattle.listing.specs.Inner.{Lays, Readable};
+ghost use Rattle.listing.specs.Inner.{Lays, Readable, digitPairs};
 use crate::field::I32_FIELD;
 use crate::field::U8_FIELD;
 use crate::field::U16_FIELD;
@@ -19,6 +20,7 @@ use crate::field::lay_u16_field;
 use crate::field::lay_u32_field;
 use crate::field::lay_u64_field;
 use crate::field::lay_word;
+use crate::number::PAIRS;
 use numbers::bytes::i32_at;
 use numbers::bytes::u16_at;
 use records::day::DayRecord;
@@ -34,10 +36,11 @@ pub fn lay_day_line(out: &mut [u8], at: usize, d: DayRecord) -> usize
     requires { ⌜ at + longestDayLine ≤ length (now out) ⌝ }
     ensures { λ r. ⌜ Lays (now (out .entry)) at (dayLine d) longestDayLine r (now (out .exit)) ⌝ }
 {
+    let pairs = PAIRS;
     let word = lay_word(out, at, b"DAY");
-    let day = lay_u16_field(out, word, d.day);
-    let quarters = lay_u8_field(out, day, d.quarters);
-    let run = lay_u32_field(out, quarters, d.run);
+    let day = lay_u16_field(out, word, d.day, &pairs);
+    let quarters = lay_u8_field(out, day, d.quarters, &pairs);
+    let run = lay_u32_field(out, quarters, d.run, &pairs);
     lay_feed(out, run)
 }
 
@@ -45,8 +48,9 @@ pub fn lay_end_line(out: &mut [u8], at: usize, groups: u32) -> usize
     requires { ⌜ at + longestEndLine ≤ length (now out) ⌝ }
     ensures { λ r. ⌜ Lays (now (out .entry)) at (endLine groups) longestEndLine r (now (out .exit)) ⌝ }
 {
+    let pairs = PAIRS;
     let word = lay_word(out, at, b"END");
-    let counted = lay_u32_field(out, word, groups);
+    let counted = lay_u32_field(out, word, groups, &pairs);
     lay_feed(out, counted)
 }
 
@@ -54,69 +58,76 @@ pub fn lay_refused_line(out: &mut [u8], at: usize, number: u8, place: u64) -> us
     requires { ⌜ at + longestRefusedLine ≤ length (now out) ⌝ }
     ensures { λ r. ⌜ Lays (now (out .entry)) at (refusedLine number place) longestRefusedLine r (now (out .exit)) ⌝ }
 {
+    let pairs = PAIRS;
     let word = lay_word(out, at, b"REFUSED");
-    let numbered = lay_u8_field(out, word, number);
+    let numbered = lay_u8_field(out, word, number, &pairs);
     let placed = lay_u64_field(out, numbered, place);
     lay_feed(out, placed)
 }
 
 // GROUP and the fields before the quantities.
-fn lay_group_front(out: &mut [u8], at: usize, result: &[u8]) -> usize
-    requires { ⌜ (groupResultLength ≤ length (now result)) × (at + longestGroupFront ≤ length (now out)) ⌝ }
+fn lay_group_front(out: &mut [u8], at: usize, result: &[u8], pairs: &[u16]) -> usize
+    requires { ⌜ (now pairs ≡ digitPairs) × ((groupResultLength ≤ length (now result)) × (at + longestGroupFront ≤ length (now out))) ⌝ }
     ensures { λ r. ⌜ Lays (now (out .entry)) at (spaced (71 ∷ 82 ∷ 79 ∷ 85 ∷ 80 ∷ []) (decimal (groupResultAt (now (result .entry)) 0 .brp) ∷ decimal (groupResultAt (now (result .entry)) 0 .zone) ∷ decimal (groupResultAt (now (result .entry)) 0 .quarter) ∷ decimal (groupResultAt (now (result .entry)) 0 .verdict) ∷ decimal (groupResultAt (now (result .entry)) 0 .count) ∷ [])) longestGroupFront r (now (out .exit)) ⌝ }
 {
     let brp = u16_at(result, GroupResult::BRP);
     let word = lay_word(out, at, b"GROUP");
-    let party = lay_u16_field(out, word, brp);
-    let zone = lay_u8_field(out, party, result[GroupResult::ZONE]);
-    let quarter = lay_u8_field(out, zone, result[GroupResult::QUARTER]);
-    let verdict = lay_u8_field(out, quarter, result[GroupResult::VERDICT]);
-    lay_u8_field(out, verdict, result[GroupResult::COUNT])
+    let party = lay_u16_field(out, word, brp, pairs);
+    let zone = lay_u8_field(out, party, result[GroupResult::ZONE], pairs);
+    let quarter = lay_u8_field(out, zone, result[GroupResult::QUARTER], pairs);
+    let verdict = lay_u8_field(out, quarter, result[GroupResult::VERDICT], pairs);
+    lay_u8_field(out, verdict, result[GroupResult::COUNT], pairs)
 }
 
 // Four quantities, which stand one after another from a place of the result on.
-fn lay_quantities(out: &mut [u8], at: usize, result: &[u8], from: usize) -> usize
-    requires { ⌜ (from + 16 ≤ length (now result)) × (at + i32Field * 4 ≤ length (now out)) ⌝ }
+fn lay_quantities(out: &mut [u8], at: usize, result: &[u8], from: usize, pairs: &[u16]) -> usize
+    requires { ⌜ (now pairs ≡ digitPairs) × ((from + 16 ≤ length (now result)) × (at + i32Field * 4 ≤ length (now out))) ⌝ }
     ensures { λ r. ⌜ Lays (now (out .entry)) at (spaced [] (signedDecimal (signed32 (be32 (now (result .entry)) from)) ∷ signedDecimal (signed32 (be32 (now (result .entry)) (from + 4))) ∷ signedDecimal (signed32 (be32 (now (result .entry)) (from + 8))) ∷ signedDecimal (signed32 (be32 (now (result .entry)) (from + 12))) ∷ [])) (i32Field * 4) r (now (out .exit)) ⌝ }
 {
-    let a = lay_i32_field(out, at, i32_at(result, from));
-    let b = lay_i32_field(out, a, i32_at(result, from + 4));
-    let c = lay_i32_field(out, b, i32_at(result, from + 8));
-    lay_i32_field(out, c, i32_at(result, from + 12))
+    let a = lay_i32_field(out, at, i32_at(result, from), pairs);
+    let b = lay_i32_field(out, a, i32_at(result, from + 4), pairs);
+    let c = lay_i32_field(out, b, i32_at(result, from + 8), pairs);
+    lay_i32_field(out, c, i32_at(result, from + 12), pairs)
 }
 
-fn lay_group_line(out: &mut [u8], at: usize, result: &[u8]) -> usize
-    requires { ⌜ (groupResultLength ≤ length (now result)) × (at + longestGroupLine ≤ length (now out)) ⌝ }
+fn lay_group_line(out: &mut [u8], at: usize, result: &[u8], pairs: &[u16]) -> usize
+    requires { ⌜ (now pairs ≡ digitPairs) × ((groupResultLength ≤ length (now result)) × (at + longestGroupLine ≤ length (now out))) ⌝ }
     ensures { λ r. ⌜ Lays (now (out .entry)) at (groupLine (groupResultAt (now (result .entry)) 0)) longestGroupLine r (now (out .exit)) ⌝ }
 {
     let balance = i32_at(result, GroupResult::BALANCE);
-    let front = lay_group_front(out, at, result);
-    let sums = lay_quantities(out, front, result, GroupResult::P);
-    let balanced = lay_i32_field(out, sums, balance);
+    let front = lay_group_front(out, at, result, pairs);
+    let sums = lay_quantities(out, front, result, GroupResult::P, pairs);
+    let balanced = lay_i32_field(out, sums, balance, pairs);
     lay_feed(out, balanced)
 }
 
-fn lay_unit_line(out: &mut [u8], at: usize, result: &[u8], from: usize) -> usize
-    requires { ⌜ (from + unitResultLength ≤ length (now result)) × (at + longestUnitLine ≤ length (now out)) ⌝ }
+fn lay_unit_line(out: &mut [u8], at: usize, result: &[u8], from: usize, pairs: &[u16]) -> usize
+    requires { ⌜ (now pairs ≡ digitPairs) × ((from + unitResultLength ≤ length (now result)) × (at + longestUnitLine ≤ length (now out))) ⌝ }
     ensures { λ r. ⌜ Lays (now (out .entry)) at (unitLine (unitResultAt (now (result .entry)) from)) longestUnitLine r (now (out .exit)) ⌝ }
 {
     let number = u16_at(result, from + UnitResult::NUMBER);
     let word = lay_word(out, at, b"UNIT");
-    let numbered = lay_u16_field(out, word, number);
-    let reason = lay_u8_field(out, numbered, result[from + UnitResult::REASON]);
-    let steps = lay_quantities(out, reason, result, from + UnitResult::N0);
+    let numbered = lay_u16_field(out, word, number, pairs);
+    let reason = lay_u8_field(out, numbered, result[from + UnitResult::REASON], pairs);
+    let steps = lay_quantities(out, reason, result, from + UnitResult::N0, pairs);
     lay_feed(out, steps)
 }
 
 // A line for each of so many units.
-fn lay_unit_lines(out: &mut [u8], at: usize, result: &[u8], count: usize) -> usize
-    requires { ⌜ (count ≤ mostUnits) × ((resultLength count ≤ length (now result)) × (at + longestUnitLine * count ≤ length (now out))) ⌝ }
+fn lay_unit_lines(out: &mut [u8], at: usize, result: &[u8], count: usize, pairs: &[u16]) -> usize
+    requires { ⌜ (now pairs ≡ digitPairs) × ((count ≤ mostUnits) × ((resultLength count ≤ length (now result)) × (at + longestUnitLine * count ≤ length (now out)))) ⌝ }
     ensures { λ r. ⌜ Lays (now (out .entry)) at (run (unitLineAt (now (result .entry))) count) (longestUnitLine * count) r (now (out .exit)) ⌝ }
 {
     let mut here = at;
     let mut i = 0;
     while i < count {
-        here = lay_unit_line(out, here, result, GroupResult::LEN + UnitResult::LEN * i);
+        here = lay_unit_line(
+            out,
+            here,
+            result,
+            GroupResult::LEN + UnitResult::LEN * i,
+            pairs,
+        );
         i += 1;
     }
     here
@@ -127,6 +138,13 @@ pub fn lay_result_lines(out: &mut [u8], at: usize, result: &[u8]) -> usize
     requires { ⌜ Readable (now result) × (at + longestLines ≤ length (now out)) ⌝ }
     ensures { λ r. ⌜ Lays (now (out .entry)) at (resultLines (now (result .entry))) longestLines r (now (out .exit)) ⌝ }
 {
-    let units = lay_group_line(out, at, result);
-    lay_unit_lines(out, units, result, result[GroupResult::COUNT] as usize)
+    let pairs = PAIRS;
+    let units = lay_group_line(out, at, result, &pairs);
+    lay_unit_lines(
+        out,
+        units,
+        result,
+        result[GroupResult::COUNT] as usize,
+        &pairs,
+    )
 }

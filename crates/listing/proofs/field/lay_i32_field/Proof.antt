@@ -1,81 +1,88 @@
--- `lay_i32_field` meets its contract: the digits stand behind the sign where the number is negative, else over it.
+-- `lay_i32_field` meets its contract: the digits of the size stand behind the minus sign where the number is negative, else behind the space.
 use Prim.Native.Nat.{_+_, _<_}
 use mathlib.Core.Path.{_≡_}
 use native.Mathlib.Omega.{arith}
-use lib.IntN.{pos, natAbs}
-use lib.Signed.{ltZ}
+use lib.IntN.{natAbs}
+use lib.ListN.{length}
 use mir.Facts.{toZ-ofZ}
-use mir.Syntax.{w32}
-use mir.Val.{toZ, ofZ}
 use denote.Ref.{now}
-use Rattle.numbers.proofs.Sums.{bit-one}
-use Rattle.numbers.specs.Sum.{bit}
+use Rattle.listing.specs.Lines.{decimal, i32Field}
 use Rattle.listing.proofs.Digits.{no-more}
-use Rattle.listing.proofs.Signs.{signed}
+use Rattle.listing.proofs.Parts.{then, one-byte, within}
+use Rattle.listing.proofs.Signs.{negative, natural}
 use borrow.Author.Needs.{needs}
 use Rattle.listing.proofs.field.lay_i32_field.Statement.{statement}
 use Rattle.listing.proofs.field.lay_i32_field.Tie as tie
 
+magnitude-requires : tie.Need-magnitude-requires
+magnitude-requires c κs = search needs
+
 lay-u8-requires : tie.Need-lay-u8-requires
 lay-u8-requires c κs = search needs
-
-add-lay-u8 : tie.Need-add-lay-u8
-add-lay-u8 c = search needs
-
-lay-u8-requires-2 : tie.Need-lay-u8-requires-2
-lay-u8-requires-2 c κs = search needs
 
 add-lay-number : tie.Need-add-lay-number
 add-lay-number c = search needs
 
-cast-lay-number : tie.Need-cast-lay-number
-cast-lay-number c = search needs
-
-add-lay-number-2 : tie.Need-add-lay-number-2
-add-lay-number-2 c =
-    let known = c .before in
-    let s = c .before .before .before .before .before .before .before .before .before .before in
-    omega (arith, s .pre, bit-one (ltZ (toZ w32 (ofZ w32 (s .args .z))) (pos 0)))
-
-magnitude-requires : tie.Need-magnitude-requires
-magnitude-requires c κs = search needs
-
 lay-number-requires : tie.Need-lay-number-requires
 lay-number-requires c κs =
-    let known3 = c .before .before in
-    let known2 = known3 .before .before .before .before in
-    let s = known2 .before .before .before .before .before in
-    omega (arith, s .pre, bit-one (ltZ (toZ w32 (ofZ w32 (s .args .z))) (pos 0)), no-more 9 (c .magnitude .result) (omega arith))
+    let m = c .before .before .before .before .before .before in
+    let s = m .before .before .before in
+    (omega (arith, s .pre .0, no-more 9 (m .magnitude .result) (omega arith)), s .pre .1)
 
 same-length : tie.Need-same-length
 same-length c = search needs
 
 returns : tie.Need-returns
 returns c =
-    let number = c .before .before in
-    let size = number .before in
-    let minus = size .before .before .before .before in
-    let space = minus .before .before .before .before in
-    let s = space .before .before .before in
+    let put = c .before .before in
+    let space = put .before .before .before .before in
+    let tested = space .before .before in
+    let m = tested .before in
+    let s = m .before .before .before in
     let a = s .args in
     let f = s .fits .z in
-    let p = a .at + 1 + bit (ltZ (toZ w32 (ofZ w32 (a .z))) (pos 0)) in
-    let e : size .magnitude .result ≡ natAbs (a .z) = simp toZ-ofZ at (size .magnitude .ensures) in
-    let w : natAbs (a .z) < 4294967296 = omega (arith, e) in
-    let q : p ≡ a .at + 1 + bit (ltZ (a .z) (pos 0)) = simp toZ-ofZ in
-    signed (now (a .out)) (a .at) (a .z) p (number .lay-number .result) (s .pre) w (space .lay-u8 .ensures) (minus .lay-u82 .ensures) q (rw e at (number .lay-number .ensures))
+    let out = now (a .out) in
+    let n = natAbs (a .z) in
+    let e : m .magnitude .result ≡ n = simp toZ-ofZ at (m .magnitude .ensures) in
+    let few = no-more 9 n (omega (arith, e)) in
+    let number = rw e at (put .lay-number .ensures) in
+    rw (negative (a .z) (simp toZ-ofZ at (tested .if1 .taken)))
+    (within out (a .at) (1 + (1 + length (decimal n))) i32Field (put .lay-number .result) (omega (arith, few))
+    (then out (a .at) 1 (1 + length (decimal n)) (a .at + 1) (put .lay-number .result) (omega (arith, s .pre .0, few)) (one-byte out (a .at) 32 (space .lay-u8 .ensures)) number))
+
+lay-number-requires-2 : tie.Need-lay-number-requires-2
+lay-number-requires-2 c κs =
+    let m = c .before .before in
+    let s = m .before .before .before in
+    (omega (arith, s .pre .0, no-more 9 (m .magnitude .result) (omega arith)), s .pre .1)
+
+same-length-2 : tie.Need-same-length-2
+same-length-2 c = search needs
+
+returns-2 : tie.Need-returns-2
+returns-2 c =
+    let put = c .before .before in
+    let tested = put .before .before in
+    let m = tested .before in
+    let s = m .before .before .before in
+    let a = s .args in
+    let f = s .fits .z in
+    let n = natAbs (a .z) in
+    let e : m .magnitude .result ≡ n = simp toZ-ofZ at (m .magnitude .ensures) in
+    let few = no-more 9 n (omega (arith, e)) in
+    rw (natural (a .z) (simp toZ-ofZ at (tested .if1 .left)))
+    (within (now (a .out)) (a .at) (1 + length (decimal n)) i32Field (put .lay-number2 .result) (omega (arith, few)) (rw e at (put .lay-number2 .ensures)))
 
 pub lay-i32-field-spec : {M : Type 1} → statement M
 lay-i32-field-spec =
     tie.close
     (tie.spec
-    lay-u8-requires
-    add-lay-u8
-    lay-u8-requires-2
-    add-lay-number
-    cast-lay-number
-    add-lay-number-2
     magnitude-requires
+    lay-u8-requires
+    add-lay-number
     lay-number-requires
     same-length
-    returns)
+    returns
+    lay-number-requires-2
+    same-length-2
+    returns-2)

@@ -1,6 +1,9 @@
 -- `lay_day_line` meets its contract: its parts stand one behind another.
 use Prim.Native.Nat.{_+_}
+use mathlib.Core.Path.{refl}
 use native.Mathlib.Omega.{arith}
+use Rattle.numbers.specs.Column.{column}
+use Rattle.listing.specs.Inner.{digitPairs}
 use denote.Ref.{now}
 use Rattle.listing.specs.Lines.{spaced, line, dayLine, u8Field, u16Field, u32Field}
 use Rattle.listing.proofs.Parts.{then}
@@ -14,14 +17,26 @@ slice-aggregate-lay-word c = search needs
 lay-word-requires : tie.Need-lay-word-requires
 lay-word-requires c κs = search needs
 
+slice-aggregate-lay-u16-field : tie.Need-slice-aggregate-lay-u16-field
+slice-aggregate-lay-u16-field c = search needs
+
 lay-u16-field-requires : tie.Need-lay-u16-field-requires
-lay-u16-field-requires c κs = search needs
+unfolding digitPairs column
+lay-u16-field-requires c κs = (search needs, refl)
+
+slice-aggregate-lay-u8-field : tie.Need-slice-aggregate-lay-u8-field
+slice-aggregate-lay-u8-field c = search needs
 
 lay-u8-field-requires : tie.Need-lay-u8-field-requires
-lay-u8-field-requires c κs = search needs
+unfolding digitPairs column
+lay-u8-field-requires c κs = (search needs, refl)
+
+slice-aggregate-lay-u32-field : tie.Need-slice-aggregate-lay-u32-field
+slice-aggregate-lay-u32-field c = search needs
 
 lay-u32-field-requires : tie.Need-lay-u32-field-requires
-lay-u32-field-requires c κs = search needs
+unfolding digitPairs column
+lay-u32-field-requires c κs = (search needs, refl)
 
 lay-feed-requires : tie.Need-lay-feed-requires
 lay-feed-requires c κs = search needs
@@ -34,9 +49,9 @@ unfolding dayLine line spaced
 returns c =
     let feed = c .before .before in
     let run = feed .before .before .before .before in
-    let quarters = run .before .before .before .before in
-    let day = quarters .before .before .before .before in
-    let word = day .before .before .before .before in
+    let quarters = run .before .before .before .before .before in
+    let day = quarters .before .before .before .before .before in
+    let word = day .before .before .before .before .before in
     let s = word .before .before .before .before in
     let a = s .args in
     let out = now (a .out) in
@@ -52,8 +67,11 @@ lay-day-line-spec =
     (tie.spec
     slice-aggregate-lay-word
     lay-word-requires
+    slice-aggregate-lay-u16-field
     lay-u16-field-requires
+    slice-aggregate-lay-u8-field
     lay-u8-field-requires
+    slice-aggregate-lay-u32-field
     lay-u32-field-requires
     lay-feed-requires
     same-length

@@ -1,6 +1,9 @@
 -- `lay_end_line` meets its contract: its parts stand one behind another.
 use Prim.Native.Nat.{_+_}
+use mathlib.Core.Path.{refl}
 use native.Mathlib.Omega.{arith}
+use Rattle.numbers.specs.Column.{column}
+use Rattle.listing.specs.Inner.{digitPairs}
 use denote.Ref.{now}
 use Rattle.listing.specs.Lines.{spaced, line, endLine, u32Field}
 use Rattle.listing.proofs.Parts.{then}
@@ -14,8 +17,12 @@ slice-aggregate-lay-word c = search needs
 lay-word-requires : tie.Need-lay-word-requires
 lay-word-requires c κs = search needs
 
+slice-aggregate-lay-u32-field : tie.Need-slice-aggregate-lay-u32-field
+slice-aggregate-lay-u32-field c = search needs
+
 lay-u32-field-requires : tie.Need-lay-u32-field-requires
-lay-u32-field-requires c κs = search needs
+unfolding digitPairs column
+lay-u32-field-requires c κs = (search needs, refl)
 
 lay-feed-requires : tie.Need-lay-feed-requires
 lay-feed-requires c κs = search needs
@@ -28,7 +35,7 @@ unfolding endLine line spaced
 returns c =
     let feed = c .before .before in
     let counted = feed .before .before .before .before in
-    let word = counted .before .before .before .before in
+    let word = counted .before .before .before .before .before in
     let s = word .before .before .before .before in
     let a = s .args in
     let out = now (a .out) in
@@ -42,6 +49,7 @@ lay-end-line-spec =
     (tie.spec
     slice-aggregate-lay-word
     lay-word-requires
+    slice-aggregate-lay-u32-field
     lay-u32-field-requires
     lay-feed-requires
     same-length

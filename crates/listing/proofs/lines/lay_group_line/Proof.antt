@@ -41,7 +41,7 @@ returns c =
     let sums = balanced .before .before .before .before in
     let front = sums .before .before .before .before in
     let read = front .before .before in
-    let s = read .before .before .before in
+    let s = read .before .before .before .before in
     let a = s .args in
     let out = now (a .out) in
     let i = a .at in
@@ -50,9 +50,9 @@ returns c =
     let h : SFits w32 (read .i32-at .result) = record { sfits = read .i32-at .ok } in
     let four : List (List ℕ) = signedDecimal (signed32 (be32 r (resultP .place))) ∷ signedDecimal (signed32 (be32 r (resultS1 .place))) ∷ signedDecimal (signed32 (be32 r (resultS2 .place))) ∷ signedDecimal (signed32 (be32 r (resultS3 .place))) ∷ [] in
     let balance = rw (toZ-ofZ h, e) at (balanced .lay-i32-field .ensures) in
-    let fields = then-fields out i four longestGroupFront (i32Field * 4) (front .lay-group-front .result) (sums .lay-quantities .result) (omega (arith, s .pre .1)) (front .lay-group-front .ensures) (sums .lay-quantities .ensures) in
-    let all = then out i (longestGroupFront + i32Field * 4) i32Field (sums .lay-quantities .result) (balanced .lay-i32-field .result) (omega (arith, s .pre .1)) fields balance in
-    then out i (longestGroupFront + i32Field * 5) 1 (balanced .lay-i32-field .result) (feed .lay-feed .result) (omega (arith, s .pre .1)) all (feed .lay-feed .ensures)
+    let fields = then-fields out i four longestGroupFront (i32Field * 4) (front .lay-group-front .result) (sums .lay-quantities .result) (omega (arith, s .pre .1 .1)) (front .lay-group-front .ensures) (sums .lay-quantities .ensures) in
+    let all = then out i (longestGroupFront + i32Field * 4) i32Field (sums .lay-quantities .result) (balanced .lay-i32-field .result) (omega (arith, s .pre .1 .1)) fields balance in
+    then out i (longestGroupFront + i32Field * 5) 1 (balanced .lay-i32-field .result) (feed .lay-feed .result) (omega (arith, s .pre .1 .1)) all (feed .lay-feed .ensures)
 
 pub lay-group-line-spec : {M : Type 1} → statement M
 lay-group-line-spec =

@@ -60,7 +60,7 @@ returns c =
     let r2 = second .before in
     let first = r2 .before .before .before .before in
     let r1 = first .before in
-    let s = r1 .before .before .before .before in
+    let s = r1 .before .before .before .before .before in
     let a = s .args in
     let out = now (a .out) in
     let i = a .at in
@@ -78,9 +78,9 @@ returns c =
     let p2 = rw (toZ-ofZ h2, e2) at (second .lay-i32-field2 .ensures) in
     let p3 = rw (toZ-ofZ h3, e3) at (third .lay-i32-field3 .ensures) in
     let p4 = rw (toZ-ofZ h4, e4) at (fourth .lay-i32-field4 .ensures) in
-    let q2 = then out i i32Field i32Field (first .lay-i32-field .result) (second .lay-i32-field2 .result) (omega (arith, s .pre .1)) p1 p2 in
-    let q3 = then out i (i32Field * 2) i32Field (second .lay-i32-field2 .result) (third .lay-i32-field3 .result) (omega (arith, s .pre .1)) q2 p3 in
-    then out i (i32Field * 3) i32Field (third .lay-i32-field3 .result) (fourth .lay-i32-field4 .result) (omega (arith, s .pre .1)) q3 p4
+    let q2 = then out i i32Field i32Field (first .lay-i32-field .result) (second .lay-i32-field2 .result) (omega (arith, s .pre .1 .1)) p1 p2 in
+    let q3 = then out i (i32Field * 2) i32Field (second .lay-i32-field2 .result) (third .lay-i32-field3 .result) (omega (arith, s .pre .1 .1)) q2 p3 in
+    then out i (i32Field * 3) i32Field (third .lay-i32-field3 .result) (fourth .lay-i32-field4 .result) (omega (arith, s .pre .1 .1)) q3 p4
 
 pub lay-quantities-spec : {M : Type 1} → statement M
 lay-quantities-spec =

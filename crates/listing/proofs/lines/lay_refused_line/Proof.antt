@@ -1,6 +1,9 @@
 -- `lay_refused_line` meets its contract: its parts stand one behind another.
 use Prim.Native.Nat.{_+_}
+use mathlib.Core.Path.{refl}
 use native.Mathlib.Omega.{arith}
+use Rattle.numbers.specs.Column.{column}
+use Rattle.listing.specs.Inner.{digitPairs}
 use denote.Ref.{now}
 use Rattle.listing.specs.Lines.{spaced, line, refusedLine, u8Field, u64Field}
 use Rattle.listing.proofs.Parts.{then}
@@ -14,8 +17,12 @@ slice-aggregate-lay-word c = search needs
 lay-word-requires : tie.Need-lay-word-requires
 lay-word-requires c κs = search needs
 
+slice-aggregate-lay-u8-field : tie.Need-slice-aggregate-lay-u8-field
+slice-aggregate-lay-u8-field c = search needs
+
 lay-u8-field-requires : tie.Need-lay-u8-field-requires
-lay-u8-field-requires c κs = search needs
+unfolding digitPairs column
+lay-u8-field-requires c κs = (search needs, refl)
 
 lay-u64-field-requires : tie.Need-lay-u64-field-requires
 lay-u64-field-requires c κs = search needs
@@ -32,7 +39,7 @@ returns c =
     let feed = c .before .before in
     let placed = feed .before .before .before .before in
     let numbered = placed .before .before .before .before in
-    let word = numbered .before .before .before .before in
+    let word = numbered .before .before .before .before .before in
     let s = word .before .before .before .before in
     let a = s .args in
     let out = now (a .out) in
@@ -47,6 +54,7 @@ lay-refused-line-spec =
     (tie.spec
     slice-aggregate-lay-word
     lay-word-requires
+    slice-aggregate-lay-u8-field
     lay-u8-field-requires
     lay-u64-field-requires
     lay-feed-requires

@@ -1,6 +1,9 @@
 -- `lay_result_lines` meets its contract: the units' lines stand behind the group's.
 use Prim.Native.Nat.{_+_, _*_}
+use mathlib.Core.Path.{refl}
 use native.Mathlib.Omega.{arith}
+use Rattle.numbers.specs.Column.{column}
+use Rattle.listing.specs.Inner.{digitPairs}
 use denote.Ref.{now}
 use Rattle.numbers.specs.Bytes.{byteAt}
 use Rattle.records.specs.Layouts.{resultCount, groupResultAt}
@@ -10,8 +13,12 @@ use borrow.Author.Needs.{needs}
 use Rattle.listing.proofs.lines.lay_result_lines.Statement.{statement}
 use Rattle.listing.proofs.lines.lay_result_lines.Tie as tie
 
+slice-aggregate-lay-group-line : tie.Need-slice-aggregate-lay-group-line
+slice-aggregate-lay-group-line c = search needs
+
 lay-group-line-requires : tie.Need-lay-group-line-requires
-lay-group-line-requires c κs = search needs
+unfolding digitPairs column
+lay-group-line-requires c κs = (refl, search needs)
 
 shared-slice-read-lay-unit-lines : tie.Need-shared-slice-read-lay-unit-lines
 shared-slice-read-lay-unit-lines c = search needs
@@ -19,8 +26,12 @@ shared-slice-read-lay-unit-lines c = search needs
 cast-lay-unit-lines : tie.Need-cast-lay-unit-lines
 cast-lay-unit-lines c = search needs
 
+slice-aggregate-lay-unit-lines : tie.Need-slice-aggregate-lay-unit-lines
+slice-aggregate-lay-unit-lines c = search needs
+
 lay-unit-lines-requires : tie.Need-lay-unit-lines-requires
-lay-unit-lines-requires c κs = search needs
+unfolding digitPairs column
+lay-unit-lines-requires c κs = (refl, search needs)
 
 same-length : tie.Need-same-length
 same-length c = search needs
@@ -29,8 +40,8 @@ returns : tie.Need-returns
 unfolding resultLines groupResultAt
 returns c =
     let put = c .before .before in
-    let front = put .before .before .before .before .before in
-    let s = front .before .before .before .before in
+    let front = put .before .before .before .before .before .before in
+    let s = front .before .before .before .before .before in
     let a = s .args in
     let out = now (a .out) in
     let count = byteAt (now (a .result)) (resultCount .place) in
@@ -44,9 +55,11 @@ pub lay-result-lines-spec : {M : Type 1} → statement M
 lay-result-lines-spec =
     tie.close
     (tie.spec
+    slice-aggregate-lay-group-line
     lay-group-line-requires
     shared-slice-read-lay-unit-lines
     cast-lay-unit-lines
+    slice-aggregate-lay-unit-lines
     lay-unit-lines-requires
     same-length
     returns)

@@ -57,7 +57,7 @@ returns c =
     let numbered = reason .before .before .before .before .before in
     let word = numbered .before .before .before .before in
     let read = word .before .before .before in
-    let s = read .before .before .before in
+    let s = read .before .before .before .before in
     let a = s .args in
     let out = now (a .out) in
     let i = a .at in
@@ -69,10 +69,10 @@ returns c =
     let four : List (List ℕ) = signedDecimal (signed32 (be32 r (f + 4))) ∷ signedDecimal (signed32 (be32 r (f + 8))) ∷ signedDecimal (signed32 (be32 r (f + 12))) ∷ signedDecimal (signed32 (be32 r (f + 16))) ∷ [] in
     let number = rw (read .u16-at .ensures) at (numbered .lay-u16-field .ensures) in
     let fields = rw (e1, e2, e3) at (steps .lay-quantities .ensures) in
-    let q1 = then out i 4 u16Field (word .lay-word .result) (numbered .lay-u16-field .result) (omega (arith, s .pre .1)) (word .lay-word .ensures) number in
-    let q2 = then out i (4 + u16Field) u8Field (numbered .lay-u16-field .result) (reason .lay-u8-field .result) (omega (arith, s .pre .1)) q1 (reason .lay-u8-field .ensures) in
-    let q3 = then-fields out i four (4 + u16Field + u8Field) (i32Field * 4) (reason .lay-u8-field .result) (steps .lay-quantities .result) (omega (arith, s .pre .1)) q2 fields in
-    then out i (4 + u16Field + u8Field + i32Field * 4) 1 (steps .lay-quantities .result) (feed .lay-feed .result) (omega (arith, s .pre .1)) q3 (feed .lay-feed .ensures)
+    let q1 = then out i 4 u16Field (word .lay-word .result) (numbered .lay-u16-field .result) (omega (arith, s .pre .1 .1)) (word .lay-word .ensures) number in
+    let q2 = then out i (4 + u16Field) u8Field (numbered .lay-u16-field .result) (reason .lay-u8-field .result) (omega (arith, s .pre .1 .1)) q1 (reason .lay-u8-field .ensures) in
+    let q3 = then-fields out i four (4 + u16Field + u8Field) (i32Field * 4) (reason .lay-u8-field .result) (steps .lay-quantities .result) (omega (arith, s .pre .1 .1)) q2 fields in
+    then out i (4 + u16Field + u8Field + i32Field * 4) 1 (steps .lay-quantities .result) (feed .lay-feed .result) (omega (arith, s .pre .1 .1)) q3 (feed .lay-feed .ensures)
 
 pub lay-unit-line-spec : {M : Type 1} → statement M
 lay-unit-line-spec =
