@@ -1,6 +1,7 @@
 // What a refusal says to a person, on the line after its number.
 use crate::input::least;
 use libc::STDERR_FILENO;
+use numbers::signed::magnitude;
 use text::line::mark_length;
 use text::spot::LONGEST_SHOWN;
 use text::spot::Name;
@@ -109,10 +110,8 @@ fn say_word(line: &[u8], number: u64, start: usize, end: usize) {
 fn say_value(value: i32) {
     if value < 0 {
         say(b"-");
-        io::print_decimal(STDERR_FILENO, (0 - (value as i64)) as u64);
-        return;
     }
-    io::print_decimal(STDERR_FILENO, value as u64);
+    io::print_decimal(STDERR_FILENO, magnitude(value) as u64);
 }
 
 // What is wrong with a value, by the refusal's number.
