@@ -87,7 +87,8 @@ module _ (g : GroupRecord) (c : Columns) (rest s : List ℕ) (so : s ≡ blockBy
       units-in (suc left) i e =
           let h : i < count c = omega arith in
           let p = unit-stands i h in
-          rw (unit-reads s (unitsEnd c i) (p .0) (rowOf c i) (p .1) (sounds i h) (floorAt c i) run limit (fine i h)) (units-in left (suc i) (omega arith))
+          rw (unit-reads s (unitsEnd c i) (p .0) (rowOf c i) (p .1) (sounds i h) (floorAt c i) run limit (fine i h))
+          (ap (λ (u : UnitRecord). unitsOf s (unitsEnd c i + lengthOf u) (rowOf c i .number + 1) run limit left) (unit-is i h) ∙ units-in left (suc i) (omega arith))
 
 -- past the other checks, the age decides
 aged-fine : (c : Columns) (day : DayRecord) (i : ℕ) → i < count c → rowChecks c i ≡ Fine → Fresh c day

@@ -1,6 +1,6 @@
 -- The loop's invariant: what is told of all the units is what is told from unit i on. A unit that passes is a turn, a fault ends it.
 use Prim.Native.Nat.{ℕ, _-_}
-use mathlib.Core.Path.{_≡_, refl, sym, _∙_}
+use mathlib.Core.Path.{_≡_, refl, sym, ap, _∙_}
 use native.Mathlib.Numerals.{add-one}
 use native.Mathlib.Omega.{arith}
 use lib.ListN.{length}
@@ -12,6 +12,7 @@ use Rattle.terms.specs.declared.refusal.Checked.{Checked}
 use Rattle.terms.proofs.FirstRefused.{Left, start, turn, stop, end}
 use Rattle.terms.proofs.Scan.{scan-steps, step-on, step-out}
 use Rattle.records.specs.declared.unit.UnitRecord.{UnitRecord}
+use Rattle.records.specs.Layouts.{lengthOf}
 use Rattle.records.specs.Reading.{valueFaults}
 use Rattle.writers.specs.Columns.{Columns, columns, rowOf, count, floorAt, rowChecks}
 use Rattle.writers.specs.Writing.{unitsEnd, unitsChecked}
@@ -118,7 +119,7 @@ loop-again c =
     let e = checked k (l .i) (unit .row .ensures) (l .inv .least) (faulty .faults .ensures) (told .enum-told .given .1) in
     record {
       least = rw (add-one (l .i), unit .row .ensures);
-      on = rw (add-one (l .i), c .length .ensures, l .inv .on);
+      on = rw (add-one (l .i), c .length .ensures ∙ ap lengthOf (unit .row .ensures), l .inv .on);
       so = turn (scan-steps (rowChecks k)) (count k) (l .i) (l .inv .so) (t .loop-test .taken) (step-on (rowChecks k) e);
     }
 

@@ -1,6 +1,6 @@
 -- Each turn lays the record of one unit more where the one before ends.
 use Prim.Native.Nat.{ℕ, _+_, _-_, _≤_, _<_}
-use mathlib.Core.Path.{_≡_, sym, _∙_}
+use mathlib.Core.Path.{_≡_, sym, ap, _∙_}
 use mathlib.Core.List.{List}
 use native.Mathlib.Omega.{arith}
 use lib.ListN.{length}
@@ -57,7 +57,7 @@ row-requires : tie.Need-row-requires Inv-loop μ-loop
 row-requires c κs = long-below (given (entry (c .before))) (entry (c .before) .pre .0) (below c)
 
 lay-unit-requires : tie.Need-lay-unit-requires Inv-loop μ-loop
-lay-unit-requires c κs = fits (c .before .before)
+lay-unit-requires c κs = omega (arith, fits (c .before .before), ap lengthOf (c .before .row .ensures))
 
 length-requires : tie.Need-length-requires Inv-loop μ-loop
 length-requires c κs = search needs
@@ -65,8 +65,9 @@ length-requires c κs = search needs
 add-here : tie.Need-add-here Inv-loop μ-loop
 add-here c =
     let lay-unit = c .before .before .before in
-    let t = lay-unit .before .before .before in
-    omega (arith, c .length .ensures, fits t, t .before .loop .inv .kept, entry (t .before) .good)
+    let unit = lay-unit .before .before in
+    let t = unit .before in
+    omega (arith, c .length .ensures, ap lengthOf (unit .row .ensures), fits t, t .before .loop .inv .kept, entry (t .before) .good)
 
 add-i : tie.Need-add-i Inv-loop μ-loop
 add-i c =
@@ -89,7 +90,7 @@ loop-again c =
     let s = entry (t .before) in
     let k = given s in
     let put = rw (unit .row .ensures) at (lay-unit .lay-unit .ensures) in
-    let on : c .length .result ≡ length (records k (l .i)) = c .length .ensures ∙ sym (length-unit (rowOf k (l .i))) in
+    let on : c .length .result ≡ length (records k (l .i)) = c .length .ensures ∙ ap lengthOf (unit .row .ensures) ∙ sym (length-unit (rowOf k (l .i))) in
     rw on (turn (records k) (s .args .units) groupLength (now (s .args .room)) (l .i) (l .inv) (below t) put)
 
 same-length : tie.Need-same-length Inv-loop μ-loop
