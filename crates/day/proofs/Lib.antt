@@ -13,3 +13,4 @@ pub mod Written
 pub mod Unique
 pub mod Parties
 pub mod Demands
+pub mod Again
