@@ -14,3 +14,4 @@ pub mod Unique
 pub mod Parties
 pub mod Demands
 pub mod Again
+pub mod Reaching

@@ -3,3 +3,4 @@ pub mod Days
 pub mod Checking
 pub mod Offers
 pub mod WholeDays
+pub mod Reached
