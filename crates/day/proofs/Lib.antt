@@ -15,3 +15,4 @@ pub mod Parties
 pub mod Demands
 pub mod Again
 pub mod Reaching
+pub mod Others

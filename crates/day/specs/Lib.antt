@@ -4,3 +4,4 @@ pub mod Checking
 pub mod Offers
 pub mod WholeDays
 pub mod Reached
+pub mod Others
