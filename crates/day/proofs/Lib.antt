@@ -13,3 +13,6 @@ pub mod Written
 pub mod Unique
 pub mod Parties
 pub mod Demands
+pub mod Again
+pub mod Reaching
+pub mod Others

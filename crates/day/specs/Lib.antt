@@ -3,3 +3,5 @@ pub mod Days
 pub mod Checking
 pub mod Offers
 pub mod WholeDays
+pub mod Reached
+pub mod Others
