@@ -2,7 +2,6 @@
 use Prim.Native.Nat.{ℕ}
 use mathlib.Core.Path.{_≡_, refl}
 use Rattle.calendar.specs.declared.date.Date.{Date}
-use Rattle.calendar.specs.declared.date.Number.{Number}
 use Rattle.calendar.specs.declared.date.Number.the-variants.{Is, No}
 use Rattle.calendar.specs.declared.moment.Moment.{Moment}
 use Rattle.calendar.specs.Calendar.{isLeap, daysOfYear, hasThirty, daysOfMonth, daysOfYears, daysOfMonths, isDate, dayNumber, dayOf, isMoment, minuteNumber, minuteOf}

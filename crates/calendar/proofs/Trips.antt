@@ -1,16 +1,15 @@
 -- Both ways round: the number of a number's date is that number, and the date of a valid date's number is that date; so for minutes.
 use Prim.Native.Nat.{ℕ, suc, _+_, _*_, _-_, _/_, _%_, _≤_, _<_}
-use mathlib.Core.Path.{_≡_, refl, ap, sym, _∙_}
-use mathlib.Core.Bool.{Bool, true, false}
-use native.Mathlib.Numerals.{add-one}
+use mathlib.Core.Path.{_≡_}
+use mathlib.Core.Bool.{true}
 use native.Mathlib.Omega.{arith}
 use Rattle.calendar.specs.declared.date.Date.{Date}
-use Rattle.calendar.specs.declared.date.Number.the-variants.{Is, No}
+use Rattle.calendar.specs.declared.date.Number.the-variants.{Is}
 use Rattle.calendar.specs.declared.moment.Moment.{Moment}
-use Rattle.calendar.specs.Calendar.{daysOfYear, daysOfMonth, daysOfYears, daysOfMonths, isDate, dayNumber, dayOf, isMoment, minuteNumber, minuteOf, lastBegun, yearsBy, monthsBy, dateIn, dateOf, momentOf, lastMinute}
-use Rattle.calendar.proofs.Begun.{Between, begun, begun-le, is-begun, rise-to}
-use Rattle.calendar.proofs.Lengths.{years-none, years-suc, years-range, years-rise, years-few, months-none, months-suc, months-range, months-rise, months-all}
-use Rattle.calendar.proofs.Valid.{Valid, valid, is-valid, in-month, in-year, before-next, before-end, ValidMoment, valid-moment, is-valid-moment}
+use Rattle.calendar.specs.Calendar.{daysOfYear, daysOfYears, daysOfMonths, isDate, dayNumber, dayOf, isMoment, minuteNumber, minuteOf, yearsBy, monthsBy, dateIn, dateOf, momentOf, lastMinute}
+use Rattle.calendar.proofs.Begun.{Between, begun, begun-le, is-begun}
+use Rattle.calendar.proofs.Lengths.{years-none, years-suc, years-range, years-rise, years-few, months-none, months-suc, months-rise, months-all}
+use Rattle.calendar.proofs.Valid.{Valid, valid, is-valid, in-month, before-next, ValidMoment, valid-moment, is-valid-moment}
 
 -- ---- what has begun by a day
 module _ (n : ℕ) where

@@ -1,7 +1,7 @@
 -- What a valid date and a valid moment say of each field, and that a valid date lies before the year 10000.
-use Prim.Native.Nat.{ℕ, suc, _+_, _*_, _-_, _≤_, _<_}
-use mathlib.Core.Path.{_≡_, refl}
-use mathlib.Core.Bool.{Bool, true, false, _&&_}
+use Prim.Native.Nat.{suc, _+_, _-_, _≤_, _<_}
+use mathlib.Core.Path.{_≡_}
+use mathlib.Core.Bool.{true, _&&_}
 use native.Mathlib.Omega.{arith}
 use borrow.Author.Tests.{leb-true, ltb-true, le-leb, lt-ltb}
 use lib.Dec.{leb, ltb}
@@ -10,7 +10,7 @@ use Rattle.calendar.specs.declared.date.Date.{Date}
 use Rattle.calendar.specs.declared.moment.Moment.{Moment}
 use Rattle.calendar.specs.Calendar.{daysOfYear, daysOfMonth, daysOfYears, daysOfMonths, isDate, dayNumber, isMoment}
 use Rattle.calendar.proofs.Begun.{rise-to}
-use Rattle.calendar.proofs.Lengths.{year-range, month-range, years-suc, years-rise, years-all, months-suc, months-rise, months-all}
+use Rattle.calendar.proofs.Lengths.{years-suc, years-rise, years-all, months-suc, months-rise, months-all}
 
 pub record Valid (d : Date) : Type 0 where
   pub year-from : 2000 ≤ d .year

@@ -1,6 +1,5 @@
 // Leap years, and the lengths of years and months.
 ghost use mathlib.Core.Path.{_≡_};
-ghost use Prim.Native.Nat.{_≤_};
 ghost use Rattle.calendar.specs.Calendar.{isLeap, daysOfYear, hasThirty, daysOfMonth};
 
 pub fn is_leap(year: u32) -> bool

@@ -51,34 +51,20 @@ fn say_name(name: Name) {
 // What a field has to be.
 fn say_form(name: Name) {
     match name {
-        Name::Word => say(b"a word that begins a line"),
         Name::Day => say(b"a whole number from 0 to 65535 or a date such as 2026-01-14"),
-        Name::Quarters => say(b"a whole number from 0 to 255"),
-        Name::RunMinute => say(
+        Name::RunMinute | Name::PositionsMade | Name::MarginsMade => say(
             b"a whole number from 0 to 4294967295 or a moment such as 2026-01-14T13:20Z",
         ),
-        Name::PositionLimit => say(b"a whole number from 0 to 65535"),
-        Name::MarginLimit => say(b"a whole number from 0 to 65535"),
-        Name::Brp => say(b"a whole number from 0 to 65535"),
-        Name::Zone => say(b"a whole number from 0 to 255"),
-        Name::Quarter => say(b"a whole number from 0 to 255"),
-        Name::UnitCount => say(b"a whole number from 0 to 255"),
-        Name::PositionsMade => say(
-            b"a whole number from 0 to 4294967295 or a moment such as 2026-01-14T13:20Z",
-        ),
-        Name::Number => say(b"a whole number from 0 to 65535"),
-        Name::Class => say(b"a whole number from 0 to 255"),
-        Name::Coincide => say(b"a whole number from 0 to 255"),
-        Name::Nominated => say(b"a whole number from 0 to 255"),
-        Name::N => say(b"a whole number from -2147483648 to 2147483647"),
-        Name::Pc => say(b"a whole number from -2147483648 to 2147483647"),
-        Name::StepDown => say(b"a whole number from -2147483648 to 2147483647"),
-        Name::StepUp => say(b"a whole number from -2147483648 to 2147483647"),
-        Name::MarginsMade => say(
-            b"a whole number from 0 to 4294967295 or a moment such as 2026-01-14T13:20Z",
-        ),
+        Name::N | Name::Pc | Name::StepDown | Name::StepUp => {
+            say(b"a whole number from -2147483648 to 2147483647")
+        }
+        Name::PositionLimit | Name::MarginLimit | Name::Brp | Name::Number => {
+            say(b"a whole number from 0 to 65535")
+        }
         Name::Groups => say(b"a whole number from 0 to 4294967295"),
         Name::Extra => say(b"a field of the line"),
+        Name::Word => say(b"a word that begins a line"),
+        _ => say(b"a whole number from 0 to 255"),
     }
 }
 

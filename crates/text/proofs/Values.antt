@@ -1,5 +1,5 @@
 -- Where no field stands there is no value of any form; and digits make a number of 32 bits.
-use Prim.Native.Nat.{ℕ, _≤_, _<_}
+use Prim.Native.Nat.{ℕ, _≤_}
 use mathlib.Core.Path.{_≡_, refl}
 use mathlib.Core.Bool.{Bool, true, false, _&&_}
 use mathlib.Core.List.{List, []}
@@ -8,8 +8,6 @@ use borrow.Author.Tests.{leb-true}
 use lib.Dec.{leb, ltb}
 use lib.ListN.{length}
 use Rattle.numbers.specs.Choice.{pick}
-use Rattle.numbers.proofs.Choices.{and-both}
-use Rattle.text.specs.declared.numbers_in.Size.{Size}
 use Rattle.text.specs.declared.numbers_in.Size.the-variants.{Is, No}
 use Rattle.text.specs.declared.values_in.Form.{Form}
 use Rattle.text.specs.declared.values_in.Form.the-variants.{Number, Day, Minute}

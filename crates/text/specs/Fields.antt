@@ -1,9 +1,9 @@
 -- The fields of a line, one after another: where each stands, whether it is in the form, and its value by width. What comes after a field that is not in the form is not read.
 use Prim.Native.Nat.{ℕ, _+_}
-use mathlib.Core.Bool.{Bool, true, false, not, _&&_}
+use mathlib.Core.Bool.{true, false, not, _&&_}
 use mathlib.Core.List.{List}
 use lib.Dec.{leb, eqb}
-use lib.IntN.{ℤ, pos, negℤ}
+use lib.IntN.{pos, negℤ}
 use lib.ListN.{length, drop}
 use Rattle.numbers.specs.Choice.{pick}
 use Rattle.text.specs.declared.numbers_in.Whole.{Whole}

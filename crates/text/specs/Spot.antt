@@ -1,7 +1,7 @@
 -- What of a line was refused, by the names of docs/TEXT.md: each field's, and of a value that the writers refuse its field and the value.
 use Prim.Native.Nat.{ℕ, min}
 use mathlib.Core.Path.{_≡_}
-use mathlib.Core.Bool.{Bool, true, false, _&&_}
+use mathlib.Core.Bool.{_&&_}
 use mathlib.Core.List.{List, _++_}
 use lib.Dec.{eqb, leb}
 use lib.ListN.{length, getD, drop}

@@ -1,5 +1,4 @@
 -- The month that has begun by the day, and the days since.
-use mathlib.Core.Path.{sym}
 use native.Mathlib.Omega.{arith}
 use Rattle.calendar.specs.Calendar.{dateIn}
 use Rattle.calendar.proofs.Lengths.{year-range}

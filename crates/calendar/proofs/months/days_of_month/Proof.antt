@@ -1,6 +1,6 @@
 -- February, the months of thirty days, and the others.
 use mathlib.Core.Path.{sym, _∙_}
-use borrow.Author.Tests.{eq-eqb, ne-eqb}
+use borrow.Author.Tests.{ne-eqb}
 use Rattle.calendar.specs.Calendar.{daysOfMonth}
 use borrow.Author.Needs.{needs}
 use Rattle.calendar.proofs.months.days_of_month.Statement.{statement}
