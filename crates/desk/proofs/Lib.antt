@@ -1,3 +1,4 @@
 -- What the proof of the C call rests on.
 pub mod First
 pub mod Unique
+pub mod Told

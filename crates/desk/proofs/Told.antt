@@ -1,0 +1,212 @@
+-- What the header says of the C call: each number in its reply is one of 1 to 12, and an accepted call is the offer of the block to the day just opened, so that the demands on an offer carry over.
+use Prim.Native.Nat.{ℕ, zero, suc, _+_, _≤_, _<_}
+use mathlib.Core.Path.{_≡_, refl, sym, ap, _∙_}
+use mathlib.Core.Bool.{Bool, true, false, _&&_}
+use mathlib.Core.List.{List, _++_}
+use native.Mathlib.Omega.{arith}
+use borrow.Author.Tests.{leb-true}
+use lib.Dec.{leb, ltb}
+use lib.IntN.{ℤ, pos, negℤ}
+use lib.ListN.{length, drop}
+use Rattle.numbers.specs.Bytes.{byteAt}
+use Rattle.numbers.proofs.Choices.{and-both}
+use Rattle.numbers.proofs.Integers.{zarith, neg}
+use Rattle.terms.specs.Reply.{Reply, is, refused, need, next}
+use Rattle.terms.specs.Refusals.{numberOf, whyOf, passed}
+use Rattle.terms.specs.Checks.{mostUnits}
+use Rattle.terms.specs.declared.refusal.Fault.{Fault}
+use Rattle.terms.specs.declared.refusal.Fault.the-variants as F
+use Rattle.terms.specs.declared.refusal.Checked.{Checked}
+use Rattle.terms.specs.declared.refusal.Checked.the-variants.{Fine, Faulty}
+use Rattle.terms.proofs.Replies.{next-is}
+use Rattle.group.specs.Columns.{sumsOf}
+use Rattle.group.specs.Demand3.{Demand3}
+use Rattle.records.specs.declared.day.DayRecord.{DayRecord}
+use Rattle.records.specs.declared.key.Last.the-variants.{Nothing}
+use Rattle.records.specs.Layouts.{groupResultAt, unitResultAt}
+use Rattle.records.specs.Reading.{permitted, headOf, dayFieldsOf, dayOf, groupFieldsOf, unitHeadOf, unitEnd, unitFieldsOf, unitOf, unitsOf}
+use Rattle.records.proofs.Read.{day-read, group-passed}
+use Rattle.writers.specs.Results.{resultLength}
+use Rattle.walk.specs.declared.table.State.the-variants.{Open}
+use Rattle.walk.specs.declared.table.Role.the-variants.{Block}
+use Rattle.walk.specs.Table.{roleOf, headIn, blockHeadIn}
+use Rattle.blocks.specs.Blocks.{groupResult, blockKey, blockCount, blockGroup, blockResult, unitResult}
+use Rattle.day.specs.declared.value.Day.{Day}
+use Rattle.day.specs.declared.offer.Step.{Step}
+use Rattle.day.specs.declared.offer.Offered.the-variants as O
+use Rattle.day.specs.Days.{opened}
+use Rattle.day.specs.Checking.{blockFieldsOf, blockHeadFor}
+use Rattle.day.specs.Offers.{blockTaken, offerOf, blockOfferOf, writtenOf, roomAfter, Offers}
+use Rattle.day.proofs.Taking.{takes}
+use Rattle.day.proofs.Read.{read}
+use Rattle.day.proofs.Outcomes.{TakenBlock, taken-block}
+use Rattle.day.proofs.BlockAlone.{alone-offered, alone-block}
+use Rattle.day.proofs.Demands.{result-bytes, group-told, unit-told, block-fair}
+use Rattle.desk.specs.Desk.{firstOf, callOf, given, Checks}
+use Rattle.desk.specs.Header.{Replied, CallTaken}
+use Rattle.desk.specs.Header as H
+use Rattle.desk.proofs.First.{first-alone}
+
+-- ---- the numbers
+abbrev early : ℕ → Bool
+early n = leb 1 n && leb n 12
+
+data Early {A : Type 0} : Reply A → Type 0 where
+  value : (a : A) → Early (is a)
+  number : (n p : ℕ) → early n ≡ true → Early (refused n p)
+
+early-need : {A : Type 0} {rest : Reply A} (t : Bool) (n p : ℕ) → early n ≡ true → Early rest → Early (need t n p rest)
+unfolding need
+early-need true n p e h = h
+early-need false n p e h = number n p e
+
+-- a test that always passes gives no refusal
+early-true : {A : Type 0} {rest : Reply A} (n p : ℕ) → Early rest → Early (need true n p rest)
+unfolding need
+early-true n p h = h
+
+early-next : {A B : Type 0} {x : Reply A} {f : A → Reply B} → Early x → ((a : A) → Early (f a)) → Early (next x f)
+unfolding next
+early-next (value a) h = h a
+early-next (number n p e) h = number n p e
+
+early-fault : (fault : Fault) → early (numberOf (whyOf fault)) ≡ true
+early-fault F.Number = refl
+early-fault F.Class = refl
+early-fault F.Coincide = refl
+early-fault F.Nominated = refl
+early-fault F.NotNominated = refl
+early-fault F.N = refl
+early-fault F.Pc = refl
+early-fault F.StepDown = refl
+early-fault F.StepUp = refl
+early-fault F.Crossed = refl
+early-fault F.Age = refl
+
+early-passed : {A : Type 0} {rest : Reply A} (place : Fault → ℕ) (checks : Checked) → Early rest → Early (passed place checks rest)
+unfolding passed
+early-passed place Fine h = h
+early-passed place (Faulty fault) h = number (numberOf (whyOf fault)) (place fault) (early-fault fault)
+
+module _ (s : List ℕ) where
+  early-head : (at kind len : ℕ) → Early (headOf s at kind len)
+  unfolding headOf
+  early-head at kind len = early-need _ 1 _ refl (early-need _ 2 _ refl (early-need _ 1 _ refl (value _)))
+
+  early-day : Early (dayOf s)
+  unfolding dayOf dayFieldsOf
+  early-day = early-next (early-head 0 _ _) (λ _. early-need _ 3 _ refl (value _))
+
+  early-units : (at floor run limit left : ℕ) → Early (unitsOf s at floor run limit left)
+  unfolding unitsOf unitOf unitFieldsOf
+  early-units at floor run limit zero = value at
+  early-units at floor run limit (suc left) =
+      early-next (early-next (early-head at _ _) (λ _. early-passed _ _ (value _))) (λ u. early-units (unitEnd s at) (u .number + 1) run limit left)
+
+  module _ (d : DayRecord) where
+    -- the first block of a day comes after none
+    early-group : Early (groupFieldsOf s d Nothing)
+    unfolding groupFieldsOf
+    early-group = early-need _ 4 _ refl (early-need _ 5 _ refl (early-true 13 _ (early-need _ 10 _ refl (value _))))
+
+    early-block : (room : ℕ) → Early (blockTaken (opened d) s room)
+    unfolding blockTaken blockFieldsOf
+    early-block room = early-next (early-next early-group (λ g. early-next (early-units _ _ _ _ _) (λ end. value _))) (λ b. early-need _ 12 _ refl (value _))
+
+    early-alone : (room : ℕ) → Early (blockOfferOf (opened d) s room)
+    unfolding blockOfferOf blockHeadFor blockHeadIn headIn
+    early-alone room =
+        early-next
+        (early-need _ 1 _ refl (early-need _ 2 _ refl (early-need _ 1 _ refl (early-need _ 2 _ refl (early-need _ 1 _ refl (early-need _ 2 _ refl (early-need _ 1 _ refl (value _))))))))
+        (λ _. early-block room)
+
+early-call : (day s : List ℕ) (room : ℕ) → Early (callOf day s room)
+unfolding callOf next
+early-call day s room = go (dayOf day) refl (early-day day)
+  where
+    go : (x : Reply DayRecord) → dayOf day ≡ x → Early x → Early (next x λ d. firstOf d s room)
+    go (is d) e h = rw (first-alone d (day-read day e .quarters) s room) (early-alone s d room)
+    go (refused n p) e (number m q k) = number m q k
+
+-- ---- an accepted call
+module _ (day s : List ℕ) (room : ℕ) {step : Step} (e : callOf day s room ≡ is step) where
+  -- the day that was opened, and the block offered alone to it
+  parts : (d : DayRecord) × ((dayOf day ≡ is d) × (blockOfferOf (opened d) s room ≡ is step))
+  unfolding callOf
+  parts =
+      let a = next-is (dayOf day) (λ d. firstOf d s room) e in
+      (a .0, (a .1 .0, sym (first-alone (a .0) (day-read day (a .1 .0) .quarters) s room) ∙ a .1 .1))
+
+  block-is : roleOf (byteAt s 0) ≡ Block
+  block-is = alone-block (opened (parts .0)) s room (parts .1 .1)
+
+  offered : offerOf (opened (parts .0)) s room ≡ is step
+  offered = sym (alone-offered (opened (parts .0)) s block-is room) ∙ parts .1 .1
+
+  written-in : (47 ≤ step .written) × (step .written ≤ 1307)
+  unfolding blockFieldsOf
+  written-in =
+      let d = parts .0 in
+      let t = taken-block (opened d) s room offered block-is in
+      let few = read (opened d) s (t .long) (t .fields) .few in
+      let g = group-passed s d Nothing (next-is (groupFieldsOf s d Nothing) _ (t .fields) .1 .0) in
+      let some = leb-true 1 (blockCount s) (and-both (leb 1 (blockCount s)) (leb (blockCount s) mostUnits) (g .counted) .0) in
+      rw (t .value) (omega arith, omega arith)
+
+-- The reply is a length from 47 to 1,307 or minus 1 to minus 12, never 0.
+pub reply-in : (day block entry : List ℕ) {z : ℤ} {exit : List ℕ} → Checks day block entry z exit → Replied z
+unfolding given
+reply-in day block entry c = rw (c .replied) (go (callOf day block (length entry)) refl (early-call day block (length entry)))
+  where
+    go : (x : Reply Step) → callOf day block (length entry) ≡ x → Early x → Replied (given x)
+    go (is step) e h =
+        let w = written-in day block (length entry) e in
+        H.length (step .written) (w .0) (w .1)
+    go (refused n p) e (number m q k) =
+        let b = and-both (leb 1 m) (leb m 12) k in
+        H.refusal m (leb-true 1 m (b .0)) (leb-true m 12 (b .1))
+
+-- An accepted call is the offer of the block to the day just opened, taken.
+pub call-taken : (day block entry : List ℕ) (n : ℕ) {exit : List ℕ} → Checks day block entry (pos n) exit → CallTaken day block entry n exit
+unfolding given roomAfter
+call-taken day block entry n {exit} c = go (callOf day block (length entry)) refl (early-call day block (length entry)) (c .replied) (c .room)
+  where
+    go : (x : Reply Step) → callOf day block (length entry) ≡ x → Early x → pos n ≡ given x → exit ≡ roomAfter x (blockResult block) entry → CallTaken day block entry n exit
+    go (is step) e h w r =
+        let k = block-is day block (length entry) e in
+        let o = offered day block (length entry) e in
+        let d = parts day block (length entry) e .0 in
+        record {
+          opens = d;
+          read = parts day block (length entry) e .1 .0;
+          step = step;
+          is-block = k;
+          taken = record { gave = takes (opened d) step o; room = rw (o, k) r };
+          told = omega zarith;
+        }
+    go (refused n′ p′) e (number m p k) w r =
+        let b = leb-true 1 m (and-both (leb 1 m) (leb m 12) k .0) in
+        absurd (omega (zarith, neg (pos m)))
+
+-- A refused call leaves the room as it was.
+pub call-keeps : (day block entry : List ℕ) (n : ℕ) {exit : List ℕ} → 1 ≤ n → Checks day block entry (negℤ (pos n)) exit → exit ≡ entry
+unfolding given roomAfter
+call-keeps day block entry n {exit} l c = go (callOf day block (length entry)) (c .replied) (c .room)
+  where
+    go : (x : Reply Step) → negℤ (pos n) ≡ given x → exit ≡ roomAfter x (blockResult block) entry → exit ≡ entry
+    go (is step) w r = absurd (omega (zarith, neg (pos n)))
+    go (refused m p) w r = r
+
+-- Demands 2 and 3 carry over.
+module _ (day block entry : List ℕ) {n : ℕ} {exit : List ℕ} (c : CallTaken day block entry n exit) where
+  pub call-bytes : exit ≡ blockResult block ++ drop (resultLength (blockCount block)) entry
+  call-bytes = result-bytes (opened (c .opens)) block entry (c .taken) (c .is-block)
+
+  pub call-group-told : groupResultAt exit 0 ≡ groupResult (blockKey block) (blockCount block) (sumsOf (blockGroup block))
+  call-group-told = group-told (opened (c .opens)) block entry (c .taken) (c .is-block)
+
+  pub call-unit-told : (i : ℕ) → i < blockCount block → unitResultAt exit (resultLength i) ≡ unitResult block i
+  call-unit-told = unit-told (opened (c .opens)) block entry (c .taken) (c .is-block)
+
+  pub call-fair : Demand3 (blockGroup block)
+  call-fair = block-fair (opened (c .opens)) block entry (c .taken) (c .is-block)
