@@ -6,6 +6,7 @@ pub mod Taking
 pub mod ByKind
 pub mod Outcomes
 pub mod Beyond
+pub mod Stands
 pub mod Walking
 pub mod Sayable
 pub mod Written
