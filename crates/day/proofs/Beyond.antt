@@ -12,25 +12,22 @@ use Rattle.numbers.specs.Choice.{pick}
 use Rattle.numbers.specs.Column.{column}
 use Rattle.numbers.specs.Sum.{bit}
 use Rattle.numbers.proofs.Columns.{column-ext}
-use Rattle.terms.specs.Reply.{Reply, is, refused, need, next}
+use Rattle.terms.specs.Reply.{Reply, is, refused, next}
 use Rattle.terms.proofs.Replies.{need-is, next-is}
 use Rattle.records.specs.declared.group.GroupRecord.{GroupRecord}
 use Rattle.records.specs.declared.unit.UnitRecord.{UnitRecord}
 use Rattle.records.specs.declared.key.Key.{Key}
 use Rattle.records.specs.Layouts.{groupLength, marginsOf, endLength}
-use Rattle.records.specs.Reading.{dayEnd, unitPlace, keyOf, groupFieldsOf, unitsOf, unitIn}
+use Rattle.records.specs.Reading.{dayEnd, unitPlace, keyOf, unitIn}
 use Rattle.records.specs.Decoding.{unitN0, unitImplicit}
-use Rattle.records.proofs.Alike.{Agree, agree, group-same, day-kept, group-kept, end-kept, units-kept, units-same, units-alike}
-use Rattle.records.specs.Longest.{longestBlock}
+use Rattle.records.proofs.Alike.{Agree, agree, group-same, day-kept, group-kept, end-kept, units-kept, units-same}
 use Rattle.records.proofs.Accepted.{units-accepted}
 use Rattle.records.proofs.Places.{place-up, place-from}
 use Rattle.records.proofs.Fields.{past}
-use Rattle.records.proofs.Read.{day-short, group-passed}
 use Rattle.walk.specs.declared.table.Role.{Role}
 use Rattle.walk.specs.declared.table.Role.the-variants as R
 use Rattle.walk.specs.declared.table.Head.{Head}
 use Rattle.walk.specs.Table.{roleOf, isBlock, headAt, headIn}
-use Rattle.walk.proofs.Bodies.{body-short}
 use Rattle.walk.proofs.Coming.{is-block, lengthIn}
 use Rattle.day.specs.declared.value.Day.{Day}
 use Rattle.blocks.specs.declared.check.Block.{Block}
@@ -94,46 +91,6 @@ module _ (s t : List ℕ) (n : ℕ) (a : Agree s t n) where
     where
       same : {X : Type 0} (f : UnitRecord → X) → column count (λ i. f (unitIn t i)) ≡ column count (λ i. f (unitIn s i))
       same f = column-ext _ _ count (λ i l. ap f (units-same s t n a groupLength i (omega (arith, place-up s groupLength (suc i) count l))))
-
-  -- where s has those bytes too, what lies in them is read alike
-  module _ (far : n ≤ length s) where
-    module _ (most : longestBlock ≤ n) where
-      fields-alike : (day : Day) → blockFieldsOf day t ≡ blockFieldsOf day s
-      unfolding blockFieldsOf next
-      fields-alike day = rw (group-kept s t n a (day .«record») (day .last) (omega arith)) (go (groupFieldsOf s (day .«record») (day .last)) refl)
-        where
-          go : (x : Reply GroupRecord) → groupFieldsOf s (day .«record») (day .last) ≡ x
-              → next x (λ g. next (unitsOf t groupLength 0 (day .«record» .run) (day .«record» .«margin_limit») (g .count)) λ end. is (blockOf g end))
-              ≡ next x (λ g. next (unitsOf s groupLength 0 (day .«record» .run) (day .«record» .«margin_limit») (g .count)) λ end. is (blockOf g end))
-          go (is g) e =
-              let p = group-passed s (day .«record») (day .last) e in
-              rw (units-alike s t n a far groupLength 0 (day .«record» .run) (day .«record» .«margin_limit») (g .count) (omega (arith, p .most, ap (λ (x : GroupRecord). x .count) (p .value))))
-          go (refused number place) e = refl
-
-      block-alike : (day : Day) (room : ℕ) → blockTaken day t room ≡ blockTaken day s room
-      unfolding blockTaken
-      block-alike day room = rw (fields-alike day)
-
-      taken-alike : (day : Day) (room : ℕ) (role : Role) (end : ℕ) → taken day t room role end ≡ taken day s room role end
-      taken-alike day room R.Opens end = opens-kept end (omega (arith, day-short s))
-      taken-alike day room R.Block end = block-alike day room
-      taken-alike day room R.Closes end = closes-kept day end (omega arith)
-
-      head-alike : (day : Day) → headFor day t ≡ headFor day s
-      unfolding headFor headIn need
-      head-alike day =
-          let b = body-short (day .state) (byteAt s 0) in
-          let x = le-leb (headAt s 0 (day .state) .end) (length s) (omega arith) in
-          let y = le-leb (headAt s 0 (day .state) .end) (length t) (omega (arith, a .long)) in
-          rw (lt-ltb 0 (length s) (omega arith), lt-ltb 0 (length t) (omega (arith, a .long)), a .same 0 (omega arith), x, y)
-
-      offer-alike : (day : Day) (room : ℕ) → offerOf day t room ≡ offerOf day s room
-      unfolding offerOf next
-      offer-alike day room = rw (head-alike day) (go (headFor day s))
-        where
-          go : (x : Reply Head) → next x (λ head. taken day t room (head .role) (head .end)) ≡ next x (λ head. taken day s room (head .role) (head .end))
-          go (is head) = taken-alike day room (head .role) (head .end)
-          go (refused number place) = refl
 
 -- what is used has its first record, and lies in the bytes
 record Lies (first used long : ℕ) : Type 0 where
@@ -230,7 +187,3 @@ offer-local day s t room {step} e same =
 -- what was taken is taken whatever bytes follow
 pub offer-unread : (day : Day) (s t : List ℕ) (room : ℕ) {step : Step} → offerOf day s room ≡ is step → (offerOf day (s ++ t) room ≡ is step) × (writtenOf (s ++ t) ≡ writtenOf s)
 offer-unread day s t room {step} e = offer-local day s (s ++ t) room e (sym (take-append-le (step .used) s t (inside day s room e)))
-
--- with as many bytes at hand as the longest block has, whatever follows them changes no reply
-pub offer-settled : (day : Day) (s t : List ℕ) (room : ℕ) → longestBlock ≤ length s → offerOf day (s ++ t) room ≡ offerOf day s room
-offer-settled day s t room h = offer-alike s (s ++ t) longestBlock (agree s (s ++ t) longestBlock h (sym (take-append-le longestBlock s t h))) h (omega arith) day room

@@ -1,8 +1,9 @@
 -- "Ways in": one record or block, offered to a day that goes in and comes back as a value. "Numbers given back": the reply, the day and the room.
 use Prim.Native.Nat.{ℕ}
 use mathlib.Core.Path.{_≡_}
+use mathlib.Core.Bool.{Bool, false}
 use mathlib.Core.List.{List, [], _++_}
-use lib.Dec.{leb, ltb}
+use lib.Dec.{eqb, leb, ltb}
 use lib.ListN.{length, drop}
 use Rattle.numbers.specs.Bytes.{byteAt}
 use Rattle.numbers.specs.Choice.{pick}
@@ -64,6 +65,11 @@ blockOfferOf day s room = next (blockHeadFor day s) λ _. blockTaken day s room
 -- what an accepted offer writes: the result of a block, and nothing for a day or an end
 abbrev pub writtenOf : List ℕ → List ℕ
 writtenOf s = pick (isBlock (roleOf (byteAt s 0))) (blockResult s) []
+
+-- what is at hand is only cut short: nothing in it is wrong, and more may make it whole
+abbrev pub cutShort : {A : Type 0} → Reply A → Bool
+cutShort (is a) = false
+cutShort (refused number place) = eqb number 1
 
 -- a refusal returns the day unchanged, and writes nothing; an accepted offer writes no byte of the room beyond its result
 unfoldable pub dayAfter : Reply Step → Day → Day

@@ -1,22 +1,29 @@
-// The day list: a day from standard input, its lines to standard output, in constant memory.
+// The day list: a day from standard input, its lines to standard output, in constant memory; what keeps the list from being whole, to standard error.
 ghost use mathlib.Core.Path.{_≡_};
+ghost use mathlib.Core.Bool.{true};
 ghost use lib.ListN.{length};
 ghost use Rattle.daylist.specs.Inner.{Places};
+ghost use Rattle.daylist.specs.declared.work.Run.the-variants.{Refused};
+ghost use Rattle.daylist.specs.Works.{isGoing, Turned};
+ghost use Rattle.daylist.specs.Runs.{Ran};
 
 mod work;
 
+use libc::STDERR_FILENO;
 use listing::list::Listed;
 use listing::list::list_next;
+use work::Run;
 use work::Work;
 use work::advanced;
 use work::flushed;
-use work::refilled;
+use work::refused;
 use work::stopped;
+use work::waited;
 
-// One step of the list; where it waits, more is read or what it holds is written.
+// One step of the list; where it waits, what it holds is written and more is read.
 fn turn(w: Work, input: &mut [u8], output: &mut [u8]) -> Work
-    requires { ⌜ Places w × ((length (now input) ≡ 65536) × (length (now output) ≡ 65536)) ⌝ }
-    ensures { λ r. ⌜ Places r ⌝ }
+    requires { ⌜ Places w × ((isGoing (w .run) ≡ true) × ((length (now input) ≡ 65536) × (length (now output) ≡ 65536))) ⌝ }
+    ensures { λ r. ⌜ Turned w (now (input .entry)) (now (output .entry)) r (now (input .exit)) (now (output .exit)) × Places r ⌝ }
 {
     let listing = w.listing;
     let from = w.from;
@@ -25,28 +32,64 @@ fn turn(w: Work, input: &mut [u8], output: &mut [u8]) -> Work
     let listed = list_next(listing, &input[from..end], w.ended, &mut output[full..]);
     match listed {
         Listed::Taken(part) => advanced(w, part),
-        Listed::Refused(n) => stopped(w, n),
-        Listed::Waits => refilled(w, input),
+        Listed::Refused(stop) => refused(w, stop),
+        Listed::Waits => waited(w, input, output),
         Listed::Full => flushed(w, output),
-        Listed::Done => stopped(w, 0),
+        Listed::Done => stopped(w, Run::Whole, 0),
     }
 }
 
 // Nothing says that the input ends, so the turns are counted down from a number that no run uses up.
-fn all_turns(input: &mut [u8], output: &mut [u8])
+fn all_turns(input: &mut [u8], output: &mut [u8]) -> Run
     requires { ⌜ (length (now input) ≡ 65536) × (length (now output) ≡ 65536) ⌝ }
+    ensures { λ r. ⌜ Ran r ⌝ }
 {
     let mut w = work::fresh();
+    let mut going = true;
     let mut left = u64::MAX;
-    while 0 < left && w.going {
+    while 0 < left && going {
         w = turn(w, input, output);
+        going = w.is_going();
         left -= 1;
     }
-    flushed(w, output);
+    let last = flushed(w, output);
+    last.run
+}
+
+fn say_refused(run: Run, number: u8, place: u64) -> bool
+    requires { ⌜ run ≡ Refused number place ⌝ }
+{
+    io::write_all(STDERR_FILENO, b"daylist: refused ");
+    io::print_decimal(STDERR_FILENO, number as u64);
+    io::write_all(STDERR_FILENO, b" at ");
+    io::print_decimal(STDERR_FILENO, place);
+    io::write_all(STDERR_FILENO, b"\n")
+}
+
+fn say_input() -> bool {
+    io::write_all(STDERR_FILENO, b"daylist: standard input cannot be read\n")
+}
+
+fn say_output() -> bool {
+    io::write_all(
+        STDERR_FILENO,
+        b"daylist: standard output cannot be written\n",
+    )
+}
+
+// A list that is not whole is said to be so; where the turns were used up it is the input that did not end.
+fn say(run: Run) -> bool {
+    match run {
+        Run::Going => say_input(),
+        Run::Whole => true,
+        Run::Refused(number, place) => say_refused(run, number, place),
+        Run::InputFailed => say_input(),
+        Run::OutputFailed => say_output(),
+    }
 }
 
 fn main() {
     let mut input = io::large_buffer();
     let mut output = io::large_buffer();
-    all_turns(&mut input, &mut output);
+    say(all_turns(&mut input, &mut output));
 }

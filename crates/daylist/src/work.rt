@@ -1,14 +1,29 @@
 // What the program keeps between two steps of the list.
 ghost use mathlib.Core.Path.{_≡_};
-ghost use Prim.Native.Nat.{_+_, _-_, _≤_};
-ghost use lib.ListN.{length};
+ghost use Prim.Native.Nat.{_+_, _-_, _≤_, _<_};
+ghost use lib.ListN.{length, take, drop};
+ghost use mathlib.Core.Bool.{true};
+ghost use mathlib.Core.List.{_++_};
+ghost use Rattle.terms.specs.Refusals.{numberOf};
 ghost use Rattle.daylist.specs.Inner.{Places};
+ghost use Rattle.daylist.specs.declared.work.Run.the-variants.{Refused};
+ghost use Rattle.daylist.specs.Works.{freshWork, isGoing, advancedBy, stoppedBy, Wrote, Read, Refilled, Waited};
 use day::value::Day;
-use libc::STDERR_FILENO;
 use libc::STDIN_FILENO;
 use libc::STDOUT_FILENO;
 use listing::list::Listing;
 use listing::list::Part;
+use listing::list::Stop;
+
+// How far the run is: it goes on, the list is whole, or what ended it.
+pub enum Run {
+    Going,
+    Whole,
+    // The number of the refusal, and its place in the input.
+    Refused(u8, u64),
+    InputFailed,
+    OutputFailed,
+}
 
 // The list so far; the bytes at hand lie from `from` to `end` of the input buffer, the first `full` bytes of the output buffer wait to be written.
 pub struct Work {
@@ -17,11 +32,26 @@ pub struct Work {
     pub end: usize,
     pub full: usize,
     pub ended: bool,
-    pub going: bool,
+    pub run: Run,
+}
+
+impl Work {
+    pub fn is_going(self) -> bool
+        ensures { λ r. ⌜ r ≡ isGoing (self .run) ⌝ }
+    {
+        let run = self.run;
+        match run {
+            Run::Going => true,
+            Run::Whole => false,
+            Run::Refused(_, _) => false,
+            Run::InputFailed => false,
+            Run::OutputFailed => false,
+        }
+    }
 }
 
 pub fn fresh() -> Work
-    ensures { λ r. ⌜ Places r ⌝ }
+    ensures { λ r. ⌜ r ≡ freshWork ⌝ }
 {
     Work {
         listing: Listing {
@@ -32,30 +62,31 @@ pub fn fresh() -> Work
         end: 0,
         full: 0,
         ended: false,
-        going: true,
+        run: Run::Going,
     }
 }
 
 // A record or block was listed.
 pub fn advanced(w: Work, part: Part) -> Work
     requires { ⌜ Places w × ((w .from + part .used ≤ w .end) × (w .full + part .written ≤ 65536)) ⌝ }
-    ensures { λ r. ⌜ Places r ⌝ }
+    ensures { λ r. ⌜ (r ≡ advancedBy w part) × Places r ⌝ }
 {
     let listing = part.listing;
+    let run = w.run;
     Work {
         listing,
         from: w.from + part.used,
         end: w.end,
         full: w.full + part.written,
         ended: w.ended,
-        going: true,
+        run,
     }
 }
 
-// The list stops, with so many bytes of a last line.
-pub fn stopped(w: Work, n: usize) -> Work
+// The run comes to this, with so many bytes of a last line.
+pub fn stopped(w: Work, run: Run, n: usize) -> Work
     requires { ⌜ Places w × (w .full + n ≤ 65536) ⌝ }
-    ensures { λ r. ⌜ Places r ⌝ }
+    ensures { λ r. ⌜ (r ≡ stoppedBy w run n) × Places r ⌝ }
 {
     let listing = w.listing;
     Work {
@@ -64,32 +95,42 @@ pub fn stopped(w: Work, n: usize) -> Work
         end: w.end,
         full: w.full + n,
         ended: w.ended,
-        going: false,
+        run,
     }
 }
 
-// The lines that wait are written; the list stops quietly where nobody takes them.
-pub fn flushed(w: Work, output: &mut [u8]) -> Work
+// A record or block was refused.
+pub fn refused(w: Work, stop: Stop) -> Work
+    requires { ⌜ Places w × (w .full + stop .written ≤ 65536) ⌝ }
+    ensures { λ r. ⌜ (r ≡ stoppedBy w (Refused (numberOf (stop .why)) (stop .place)) (stop .written)) × Places r ⌝ }
+{
+    let why = stop.why;
+    stopped(w, Run::Refused(why.number(), stop.place), stop.written)
+}
+
+// The lines that wait are written; a run that nobody takes lines of ends, whatever it came to.
+pub fn flushed(w: Work, output: &[u8]) -> Work
     requires { ⌜ Places w × (length (now output) ≡ 65536) ⌝ }
-    ensures { λ r. ⌜ Places r ⌝ }
+    ensures { λ r. ⌜ Wrote w r × Places r ⌝ }
 {
     let full = w.full;
-    let going = io::write_all(STDOUT_FILENO, &output[..full]);
+    let taken = io::write_all(STDOUT_FILENO, &output[..full]);
     let listing = w.listing;
+    let run = if taken { w.run } else { Run::OutputFailed };
     Work {
         listing,
         from: w.from,
         end: w.end,
         full: 0,
         ended: w.ended,
-        going,
+        run,
     }
 }
 
 // Moves the bytes from a place up to another to the front, and gives how many they are.
 fn move_front(input: &mut [u8], from: usize, end: usize) -> usize
     requires { ⌜ (from ≤ end) × (end ≤ length (now input)) ⌝ }
-    ensures { λ r. ⌜ r ≡ end - from ⌝ }
+    ensures { λ r. ⌜ (r ≡ end - from) × (now (input .exit) ≡ take (end - from) (drop from (now (input .entry))) ++ drop (end - from) (now (input .entry))) ⌝ }
 {
     let n = end - from;
     let mut i = 0;
@@ -102,30 +143,30 @@ fn move_front(input: &mut [u8], from: usize, end: usize) -> usize
 
 // What a read gave: so many bytes, none where the input has ended; one that fails is no end of the input.
 fn read_more(w: Work, from: usize, end: usize, free: &mut [u8]) -> Work
-    requires { ⌜ Places w × ((from ≤ end) × (end + length (now free) ≤ 65536)) ⌝ }
-    ensures { λ r. ⌜ Places r ⌝ }
+    requires { ⌜ Places w × ((from ≤ end) × ((end + length (now free) ≤ 65536) × (0 < length (now free)))) ⌝ }
+    ensures { λ r. ⌜ Read w from end (now (free .exit)) r × Places r ⌝ }
 {
     let listing = w.listing;
     let got = libc::read(STDIN_FILENO, free);
     if got < 0 {
-        io::write_all(STDERR_FILENO, b"daylist: standard input cannot be read\n");
-        return stopped(w, 0);
+        return stopped(w, Run::InputFailed, 0);
     }
     let n = io::count(got, free);
+    let run = w.run;
     Work {
         listing,
         from,
         end: end + n,
         full: w.full,
         ended: n == 0,
-        going: true,
+        run,
     }
 }
 
 // More of the input is read, behind the bytes at hand, which are moved to the front where there is no room behind them.
-pub fn refilled(w: Work, input: &mut [u8]) -> Work
-    requires { ⌜ Places w × (length (now input) ≡ 65536) ⌝ }
-    ensures { λ r. ⌜ Places r ⌝ }
+fn refilled(w: Work, input: &mut [u8]) -> Work
+    requires { ⌜ Places w × ((length (now input) ≡ 65536) × (w .end - w .from < 65536)) ⌝ }
+    ensures { λ r. ⌜ Refilled w (now (input .entry)) r (now (input .exit)) × Places r ⌝ }
 {
     let end = w.end;
     if end < input.len() {
@@ -133,4 +174,16 @@ pub fn refilled(w: Work, input: &mut [u8]) -> Work
     }
     let n = move_front(input, w.from, end);
     read_more(w, 0, n, &mut input[n..])
+}
+
+// The list waits: first what it wrote is handed on, and then more is read.
+pub fn waited(w: Work, input: &mut [u8], output: &[u8]) -> Work
+    requires { ⌜ Places w × ((isGoing (w .run) ≡ true) × ((length (now input) ≡ 65536) × ((length (now output) ≡ 65536) × (w .end - w .from < 65536)))) ⌝ }
+    ensures { λ r. ⌜ Waited w (now (input .entry)) r (now (input .exit)) × Places r ⌝ }
+{
+    let flushed = flushed(w, output);
+    if flushed.is_going() {
+        return refilled(flushed, input);
+    }
+    flushed
 }

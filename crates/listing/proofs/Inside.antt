@@ -1,7 +1,7 @@
 -- What a step used lies in the bytes at hand, and what it wrote in the room.
 use Prim.Native.Nat.{ℕ, _≤_}
 use mathlib.Core.Path.{_≡_, refl, ap, _∙_}
-use mathlib.Core.Bool.{Bool, true, false}
+use mathlib.Core.Bool.{Bool, true, false, _&&_}
 use mathlib.Core.List.{List, []}
 use native.Mathlib.Omega.{arith}
 use lib.Dec.{ltb}
@@ -15,66 +15,62 @@ use Rattle.day.specs.Offers.{offerOf}
 use Rattle.day.proofs.Beyond.{inside}
 use Rattle.listing.specs.declared.list.Listing.{Listing}
 use Rattle.listing.specs.declared.list.Listed.{Listed}
-use Rattle.listing.specs.declared.list.Listed.the-variants.{Taken, Refused, Waits, Full, Done}
 use Rattle.listing.specs.Lines.{longestLines}
-use Rattle.listing.specs.Listing.{outcome, listTaken, listRefused, listReply, waits, over, listOf, Lists}
+use Rattle.listing.specs.Listing.{Answer, accepts, refuses, waits, full, done, answerOf, Outcome, outcome, listTaken, listRefused, listReply, mustWait, listOffered, over, listOf, Lists}
 
 -- the bytes that an answer tells as used, and as written
-abbrev pub usedBy : Listed → ℕ
-usedBy (Taken p) = p .used
-usedBy (Refused n) = 0
-usedBy Waits = 0
-usedBy Full = 0
-usedBy Done = 0
+abbrev pub usedBy : Answer → ℕ
+usedBy (accepts p) = p .used
+usedBy (refuses number place n) = 0
+usedBy waits = 0
+usedBy full = 0
+usedBy done = 0
 
-abbrev pub writtenBy : Listed → ℕ
-writtenBy (Taken p) = p .written
-writtenBy (Refused n) = n
-writtenBy Waits = 0
-writtenBy Full = 0
-writtenBy Done = 0
+abbrev pub writtenBy : Answer → ℕ
+writtenBy (accepts p) = p .written
+writtenBy (refuses number place n) = n
+writtenBy waits = 0
+writtenBy full = 0
+writtenBy done = 0
 
-module _ (l : Listing) (s : List ℕ) (ended : Bool) (entry : List ℕ) where
+-- what holds of each end of a step holds of its outcome
+module _ (l : Listing) (s : List ℕ) (ended : Bool) (room : ℕ) (P : Outcome → Type 0) where
+  by-end : P (outcome full []) → P (outcome done []) → P (outcome waits []) → P (listReply (l .place) s (offerOf (l .day) s longestResult)) → P (listOf l s ended room)
+  unfolding listOf listOffered
+  by-end f d w r = go (ltb room longestLines) (ended && over (l .day) s) (mustWait (offerOf (l .day) s longestResult) ended)
+    where
+      go : (a b c : Bool) → P (pick a (outcome full []) (pick b (outcome done []) (pick c (outcome waits []) (listReply (l .place) s (offerOf (l .day) s longestResult)))))
+      go true b c = f
+      go false true c = d
+      go false false true = w
+      go false false false = r
+
+module _ (l : Listing) (s : List ℕ) (ended : Bool) (room : ℕ) where
   reply-inside : (x : Reply Step) → offerOf (l .day) s longestResult ≡ x → usedBy (listReply (l .place) s x .answer) ≤ length s
   unfolding listReply listTaken listRefused
   reply-inside (is step) e = inside (l .day) s longestResult e
   reply-inside (refused n p) e = omega arith
 
-  answer-inside : usedBy (listOf l s ended (length entry) .answer) ≤ length s
-  unfolding listOf
-  answer-inside = go (ltb (length entry) longestLines) (waits s ended) (over (l .day) s)
-    where
-      go : (a b c : Bool)
-          → usedBy (pick a (outcome Full []) (pick b (outcome Waits []) (pick c (outcome Done []) (listReply (l .place) s (offerOf (l .day) s longestResult)))) .answer) ≤ length s
-      go true b c = omega arith
-      go false true c = omega arith
-      go false false true = omega arith
-      go false false false = reply-inside (offerOf (l .day) s longestResult) refl
+  pub step-inside : usedBy (listOf l s ended room .answer) ≤ length s
+  step-inside =
+      by-end l s ended room (λ o. usedBy (o .answer) ≤ length s) (omega arith) (omega arith) (omega arith) (reply-inside (offerOf (l .day) s longestResult) refl)
 
   reply-long : (x : Reply Step) → writtenBy (listReply (l .place) s x .answer) ≡ length (listReply (l .place) s x .lines)
   unfolding listReply listTaken listRefused
   reply-long (is step) = refl
   reply-long (refused n p) = refl
 
-  answer-long : writtenBy (listOf l s ended (length entry) .answer) ≡ length (listOf l s ended (length entry) .lines)
-  unfolding listOf
-  answer-long = go (ltb (length entry) longestLines) (waits s ended) (over (l .day) s)
-    where
-      go : (a b c : Bool)
-          → writtenBy (pick a (outcome Full []) (pick b (outcome Waits []) (pick c (outcome Done []) (listReply (l .place) s (offerOf (l .day) s longestResult)))) .answer)
-          ≡ length (pick a (outcome Full []) (pick b (outcome Waits []) (pick c (outcome Done []) (listReply (l .place) s (offerOf (l .day) s longestResult)))) .lines)
-      go true b c = refl
-      go false true c = refl
-      go false false true = refl
-      go false false false = reply-long (offerOf (l .day) s longestResult)
+  pub step-long : writtenBy (listOf l s ended room .answer) ≡ length (listOf l s ended room .lines)
+  step-long =
+      by-end l s ended room (λ o. writtenBy (o .answer) ≡ length (o .lines)) refl refl refl (reply-long (offerOf (l .day) s longestResult))
 
-  module _ {r : Listed} {exit : List ℕ} (o : Lists (listOf l s ended (length entry)) entry r exit) where
-    pub used-inside : usedBy r ≤ length s
-    used-inside = rw (o .replied) answer-inside
+module _ (l : Listing) (s : List ℕ) (ended : Bool) (entry : List ℕ) {r : Listed} {exit : List ℕ} (o : Lists (listOf l s ended (length entry)) entry r exit) where
+  pub used-inside : usedBy (answerOf r) ≤ length s
+  used-inside = rw (o .replied) (step-inside l s ended (length entry))
 
-    pub written-inside : length exit ≡ length entry → writtenBy r ≤ length entry
-    written-inside h =
-        let lines = listOf l s ended (length entry) .lines in
-        let n = ap length (o .room ∙ laid-front entry lines) ∙ length-append lines (drop (length lines) entry) in
-        let w : writtenBy r ≡ length lines = ap writtenBy (o .replied) ∙ answer-long in
-        omega (arith, length-drop (length lines) entry)
+  pub written-inside : length exit ≡ length entry → writtenBy (answerOf r) ≤ length entry
+  written-inside h =
+      let lines = listOf l s ended (length entry) .lines in
+      let n = ap length (o .room ∙ laid-front entry lines) ∙ length-append lines (drop (length lines) entry) in
+      let w : writtenBy (answerOf r) ≡ length lines = ap writtenBy (o .replied) ∙ step-long l s ended (length entry) in
+      omega (arith, length-drop (length lines) entry)

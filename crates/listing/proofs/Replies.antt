@@ -1,7 +1,7 @@
--- The four ends of a step, and what was offered: the lines by the room after the call are those by the block's result.
+-- The ends of a step, and what was offered: the lines by the room after the call are those by the block's result.
 use Prim.Native.Nat.{ℕ, zero, suc, _+_, _<_}
 use mathlib.Core.Path.{_≡_, refl, sym, ap, _∙_}
-use mathlib.Core.Bool.{Bool, true, false}
+use mathlib.Core.Bool.{Bool, true, false, not, _&&_}
 use mathlib.Core.List.{List, [], append-nil}
 use native.Mathlib.Omega.{arith}
 use borrow.Author.Tests.{ltb-true}
@@ -34,42 +34,39 @@ use Rattle.blocks.proofs.ReadBack.{group-back, unit-back}
 use Rattle.day.proofs.Demands.{block-accepted, result-bytes, group-told, unit-told}
 use Rattle.listing.specs.declared.list.Listing.{Listing}
 use Rattle.listing.specs.declared.list.Listed.{Listed}
-use Rattle.listing.specs.declared.list.Listed.the-variants.{Waits, Full, Done}
+use Rattle.listing.specs.declared.list.Listed.the-variants.{Full, Done}
 use Rattle.listing.specs.Lines.{unitLine, unitLineAt, resultLines, longestLines}
 use Rattle.listing.specs.Inner.{Readable}
-use Rattle.listing.specs.Listing.{outcome, acceptedLines, listTaken, listRefused, listReply, waits, over, listOf, Lists}
+use Rattle.listing.specs.Listing.{answerOf, waits, full, done, outcome, acceptedLines, listTaken, listRefused, listReply, mustWait, listOffered, over, listOf, Lists}
 
 module _ (l : Listing) (s : List ℕ) (ended : Bool) (entry : List ℕ) where
   -- an answer that writes nothing
-  silent : (r : Listed) → listOf l s ended (length entry) ≡ outcome r [] → Lists (listOf l s ended (length entry)) entry r entry
+  silent : (r : Listed) → listOf l s ended (length entry) ≡ outcome (answerOf r) [] → Lists (listOf l s ended (length entry)) entry r entry
   silent r e = rw e (record { replied = refl; room = laid-none entry 0 })
 
-  is-full : ltb (length entry) longestLines ≡ true → listOf l s ended (length entry) ≡ outcome Full []
+  is-full : ltb (length entry) longestLines ≡ true → listOf l s ended (length entry) ≡ outcome full []
   unfolding listOf
   is-full a = rw a
 
-  pub full : ltb (length entry) longestLines ≡ true → Lists (listOf l s ended (length entry)) entry Full entry
-  full a = silent Full (is-full a)
+  pub when-full : ltb (length entry) longestLines ≡ true → Lists (listOf l s ended (length entry)) entry Full entry
+  when-full a = silent Full (is-full a)
 
   module _ (a : ltb (length entry) longestLines ≡ false) where
-    is-waiting : waits s ended ≡ true → listOf l s ended (length entry) ≡ outcome Waits []
+    is-done : (ended && over (l .day) s) ≡ true → listOf l s ended (length entry) ≡ outcome done []
     unfolding listOf
-    is-waiting b = rw (a, b)
+    is-done c = rw (a, c)
 
-    pub waiting : waits s ended ≡ true → Lists (listOf l s ended (length entry)) entry Waits entry
-    waiting b = silent Waits (is-waiting b)
+    pub when-done : (ended && over (l .day) s) ≡ true → Lists (listOf l s ended (length entry)) entry Done entry
+    when-done c = silent Done (is-done c)
 
-    module _ (b : waits s ended ≡ false) where
-      is-done : over (l .day) s ≡ true → listOf l s ended (length entry) ≡ outcome Done []
-      unfolding listOf
-      is-done c = rw (a, b, c)
+    pub offered : (ended && over (l .day) s) ≡ false → listOf l s ended (length entry) ≡ listOffered (l .place) s ended (offerOf (l .day) s longestResult)
+    unfolding listOf
+    offered c = rw (a, c)
 
-      pub done : over (l .day) s ≡ true → Lists (listOf l s ended (length entry)) entry Done entry
-      done c = silent Done (is-done c)
-
-      pub offered : over (l .day) s ≡ false → listOf l s ended (length entry) ≡ listReply (l .place) s (offerOf (l .day) s longestResult)
-      unfolding listOf
-      offered c = rw (a, b, c)
+-- what was taken does not wait
+goes-on : (ended : Bool) → (not ended && false) ≡ false
+goes-on true = refl
+goes-on false = refl
 
 -- runs of the same parts
 run-same : (f g : ℕ → List ℕ) (n : ℕ) → ((i : ℕ) → i < n → f i ≡ g i) → run f n ≡ run g n
@@ -124,18 +121,18 @@ module _ (day : Day) (s entry : List ℕ) (long : length entry ≡ longestResult
         go Block q = same-lines q
         go Closes q = refl
 
-    pub taken : (place : ℕ) → listTaken place step (roleOf (byteAt s 0)) exit ≡ listReply place s (offerOf day s longestResult)
-    unfolding listTaken listReply
-    taken place =
+    pub taken : (place : ℕ) (ended : Bool) → listTaken place step (roleOf (byteAt s 0)) exit ≡ listOffered place s ended (offerOf day s longestResult)
+    unfolding listTaken listReply listOffered
+    taken place ended =
         let e : offerOf day s longestResult ≡ is step = rw long at (reply day s entry o) in
-        rw (e, lines-agree (step .day))
+        rw (e, goes-on ended, lines-agree (step .day))
 
     pub at-hand : 0 < length s
     at-hand = present day s (length entry) (reply day s entry o)
 
-  pub refused : (f : Refusal) (back : Day) {exit : List ℕ} → Offers day s entry (O.Refused f back) exit → (place : ℕ)
-      → listRefused place (numberOf (f .why)) (f .place) ≡ listReply place s (offerOf day s longestResult)
-  unfolding listReply
-  refused f back o place =
+  pub refused : (f : Refusal) (back : Day) {exit : List ℕ} → Offers day s entry (O.Refused f back) exit → (place : ℕ) (ended : Bool)
+      → pick (mustWait (refusal f) ended) (outcome waits []) (listRefused place (numberOf (f .why)) (f .place)) ≡ listOffered place s ended (offerOf day s longestResult)
+  unfolding listReply listOffered
+  refused f back o place ended =
       let e : offerOf day s longestResult ≡ refusal f = rw long at (sym (o .gave .replied)) in
       rw e

@@ -14,9 +14,8 @@ use Rattle.day.specs.Days.{fresh}
 use Rattle.day.specs.Offers.{offerOf, writtenOf}
 use Rattle.listing.specs.declared.list.Listing.{Listing}
 use Rattle.listing.specs.declared.list.Part.{Part}
-use Rattle.listing.specs.declared.list.Listed.the-variants.{Taken, Refused, Done}
 use Rattle.listing.specs.Lines.{refusedLine}
-use Rattle.listing.specs.Listing.{further, outcome, acceptedLines, over, listOf}
+use Rattle.listing.specs.Listing.{further, accepts, refuses, done, outcome, acceptedLines, over, listOf}
 
 -- the list after what was accepted
 abbrev pub following : Listing → Step → Listing
@@ -40,8 +39,8 @@ dayList input = linesFrom (length input + 1) (record { day = fresh; place = 0 })
 -- A step that waits or finds no room writes nothing and is tried again.
 pub data Steps : Listing → List ℕ → List ℕ → Type 0 where
   went : {l : Listing} {input lines rest : List ℕ} {part : Part} (s more : List ℕ) (ended : Bool) (room : ℕ) → input ≡ s ++ more → (ended ≡ true → more ≡ [])
-      → listOf l s ended room ≡ outcome (Taken part) lines → Steps (part .listing) (drop (part .used) input) rest → Steps l input (lines ++ rest)
-  stopped : {l : Listing} {input lines : List ℕ} {n : ℕ} (s more : List ℕ) (ended : Bool) (room : ℕ) → input ≡ s ++ more → (ended ≡ true → more ≡ [])
-      → listOf l s ended room ≡ outcome (Refused n) lines → Steps l input lines
+      → listOf l s ended room ≡ outcome (accepts part) lines → Steps (part .listing) (drop (part .used) input) rest → Steps l input (lines ++ rest)
+  stopped : {l : Listing} {input lines : List ℕ} {number place n : ℕ} (s more : List ℕ) (ended : Bool) (room : ℕ) → input ≡ s ++ more → (ended ≡ true → more ≡ [])
+      → listOf l s ended room ≡ outcome (refuses number place n) lines → Steps l input lines
   finished : {l : Listing} {input lines : List ℕ} (s more : List ℕ) (ended : Bool) (room : ℕ) → input ≡ s ++ more → (ended ≡ true → more ≡ [])
-      → listOf l s ended room ≡ outcome Done lines → Steps l input lines
+      → listOf l s ended room ≡ outcome done lines → Steps l input lines

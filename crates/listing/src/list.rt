@@ -1,14 +1,19 @@
 // One step of the day list: the next record or block of the input is offered to the day, and its lines are written.
 ghost use mathlib.Core.Path.{_≡_};
+ghost use mathlib.Core.Bool.{not, _&&_};
+ghost use mathlib.Core.List.{[]};
 ghost use Prim.Native.Nat.{_≤_};
+ghost use lib.Dec.{eqb};
 ghost use lib.ListN.{length};
-ghost use Rattle.terms.specs.Refusals.{numberOf};
+ghost use Rattle.numbers.specs.Choice.{pick};
+ghost use Rattle.terms.specs.Refusals.{numberOf, refusal};
 ghost use Rattle.day.specs.Offers.{offerOf};
 ghost use Rattle.records.specs.Longest.{longestResult};
 ghost use Rattle.walk.specs.declared.table.Role.the-variants.{Block};
+ghost use Rattle.listing.specs.declared.list.Listed.the-variants.{Refused};
 ghost use Rattle.listing.specs.Lines.{longestLines};
 ghost use Rattle.listing.specs.Inner.{Lays, Readable};
-ghost use Rattle.listing.specs.Listing.{acceptedLines, listTaken, listRefused, listReply, waits, over, listOf, Lists};
+ghost use Rattle.listing.specs.Listing.{waits, outcome, acceptedLines, listTaken, listRefused, listOffered, mustWait, over, listOf, Lists};
 use crate::lines::GROUP_LINE;
 use crate::lines::UNIT_LINE;
 use crate::lines::lay_day_line;
@@ -21,10 +26,10 @@ use day::offer::offer;
 use day::value::Day;
 use records::group::GroupRecord;
 use records::group_result::GroupResult;
-use records::unit::UnitRecord;
 use records::unit_result::UnitResult;
 use std::num::wrapping_add_u64;
 use terms::refusal::Refusal;
+use terms::refusal::Why;
 use walk::table::Role;
 use walk::table::role_of;
 
@@ -35,9 +40,7 @@ pub struct Listing {
 }
 
 impl Listing {
-    // A block's most bytes, those of its result, and those of its lines.
-    pub const BLOCK: usize = GroupRecord::LEN + UnitRecord::LEN * GroupRecord::UNITS;
-
+    // The most bytes of a block's result, and those of its lines.
     pub const RESULT: usize = GroupResult::LEN + UnitResult::LEN * GroupRecord::UNITS;
 
     pub const LINES: usize = GROUP_LINE + UNIT_LINE * GroupRecord::UNITS;
@@ -50,11 +53,18 @@ pub struct Part {
     pub listing: Listing,
 }
 
+// What was refused: why, the place in the input, and how many bytes its line has.
+pub struct Stop {
+    pub why: Why,
+    pub place: u64,
+    pub written: usize,
+}
+
 pub enum Listed {
     Taken(Part),
-    // The length of the last line; the list stops.
-    Refused(usize),
-    // More of the input is wanted.
+    // The list stops.
+    Refused(Stop),
+    // What is at hand is only cut short: more of the input is wanted.
     Waits,
     // More room is wanted.
     Full,
@@ -72,13 +82,22 @@ fn is_over(day: Day, s: &[u8]) -> bool
     false
 }
 
-fn must_wait(s: &[u8], ended: bool) -> bool
-    ensures { λ r. ⌜ r ≡ waits (now (s .entry)) ended ⌝ }
+fn is_done(day: Day, s: &[u8], ended: bool) -> bool
+    ensures { λ r. ⌜ r ≡ (ended && over day (now (s .entry))) ⌝ }
+{
+    if ended {
+        return is_over(day, s);
+    }
+    false
+}
+
+fn must_wait(why: Why, ended: bool) -> bool
+    ensures { λ r. ⌜ r ≡ (not ended && eqb (numberOf why) 1) ⌝ }
 {
     if ended {
         return false;
     }
-    s.len() < Listing::BLOCK
+    why.number() == 1
 }
 
 // The lines of what was accepted, by what it is to the day.
@@ -108,24 +127,40 @@ fn list_taken(place: u64, step: Step, role: Role, result: &[u8], room: &mut [u8]
     })
 }
 
-fn list_refused(place: u64, r: Refusal, room: &mut [u8]) -> Listed
+fn lay_stop(place: u64, r: Refusal, room: &mut [u8]) -> Stop
     requires { ⌜ longestLines ≤ length (now room) ⌝ }
-    ensures { λ a. ⌜ Lists (listRefused place (numberOf (r .why)) (r .place)) (now (room .entry)) a (now (room .exit)) ⌝ }
+    ensures { λ a. ⌜ Lists (listRefused place (numberOf (r .why)) (r .place)) (now (room .entry)) (Refused a) (now (room .exit)) ⌝ }
 {
     let why = r.why;
     let at = wrapping_add_u64(place, r.place as u64);
-    Listed::Refused(lay_refused_line(room, 0, why.number(), at))
+    let written = lay_refused_line(room, 0, why.number(), at);
+    Stop {
+        why,
+        place: at,
+        written,
+    }
+}
+
+fn list_refused(place: u64, r: Refusal, ended: bool, room: &mut [u8]) -> Listed
+    requires { ⌜ longestLines ≤ length (now room) ⌝ }
+    ensures { λ a. ⌜ Lists (pick (mustWait (refusal r) ended) (outcome waits []) (listRefused place (numberOf (r .why)) (r .place))) (now (room .entry)) a (now (room .exit)) ⌝ }
+{
+    let why = r.why;
+    if must_wait(why, ended) {
+        return Listed::Waits;
+    }
+    Listed::Refused(lay_stop(place, r, room))
 }
 
 // The step, by way of room for a result.
-fn list_through(l: Listing, s: &[u8], result: &mut [u8], room: &mut [u8]) -> Listed
+fn list_through(l: Listing, s: &[u8], ended: bool, result: &mut [u8], room: &mut [u8]) -> Listed
     requires { ⌜ (length (now result) ≡ longestResult) × (longestLines ≤ length (now room)) ⌝ }
-    ensures { λ r. ⌜ Lists (listReply (l .place) (now (s .entry)) (offerOf (l .day) (now (s .entry)) longestResult)) (now (room .entry)) r (now (room .exit)) ⌝ }
+    ensures { λ r. ⌜ Lists (listOffered (l .place) (now (s .entry)) ended (offerOf (l .day) (now (s .entry)) longestResult)) (now (room .entry)) r (now (room .exit)) ⌝ }
 {
     let day = l.day;
     match offer(day, s, result) {
         Offered::Taken(step) => list_taken(l.place, step, role_of(s[0]), result, room),
-        Offered::Refused(r, _) => list_refused(l.place, r, room),
+        Offered::Refused(r, _) => list_refused(l.place, r, ended, room),
     }
 }
 
@@ -135,12 +170,12 @@ fn result_room() -> [u8; Listing::RESULT]
     [0; Listing::RESULT]
 }
 
-fn list_offer(l: Listing, s: &[u8], room: &mut [u8]) -> Listed
+fn list_offer(l: Listing, s: &[u8], ended: bool, room: &mut [u8]) -> Listed
     requires { ⌜ longestLines ≤ length (now room) ⌝ }
-    ensures { λ r. ⌜ Lists (listReply (l .place) (now (s .entry)) (offerOf (l .day) (now (s .entry)) longestResult)) (now (room .entry)) r (now (room .exit)) ⌝ }
+    ensures { λ r. ⌜ Lists (listOffered (l .place) (now (s .entry)) ended (offerOf (l .day) (now (s .entry)) longestResult)) (now (room .entry)) r (now (room .exit)) ⌝ }
 {
     let mut result = result_room();
-    list_through(l, s, &mut result, room)
+    list_through(l, s, ended, &mut result, room)
 }
 
 // One step: s are the bytes of the input that are at hand from the listing's place on, and none will come after them where it has ended.
@@ -150,12 +185,9 @@ pub fn list_next(l: Listing, s: &[u8], ended: bool, room: &mut [u8]) -> Listed
     if room.len() < Listing::LINES {
         return Listed::Full;
     }
-    if must_wait(s, ended) {
-        return Listed::Waits;
-    }
     let day = l.day;
-    if is_over(day, s) {
+    if is_done(day, s, ended) {
         return Listed::Done;
     }
-    list_offer(l, s, room)
+    list_offer(l, s, ended, room)
 }

@@ -1,12 +1,12 @@
 -- Where bytes agree up to a place, what lies before it is read alike: values, records, and the units of a block.
-use Prim.Native.Nat.{ℕ, zero, suc, _+_, _-_, _*_, _≤_, _<_}
+use Prim.Native.Nat.{ℕ, zero, suc, _+_, _-_, _≤_, _<_}
 use mathlib.Core.Path.{_≡_, refl, sym, ap, _∙_}
 use mathlib.Core.List.{List}
 use native.Mathlib.Omega.{arith}
 use lib.ListN.{length, take, length-take}
 use lib.Seq.{getD-take}
 use Rattle.numbers.specs.Bytes.{byteAt, be16, be32, signed32}
-use Rattle.terms.specs.Reply.{Reply, is, refused, next}
+use Rattle.terms.specs.Reply.{is, next}
 use Rattle.terms.proofs.Replies.{next-is}
 use Rattle.records.specs.declared.day.DayRecord.{DayRecord}
 use Rattle.records.specs.declared.unit.UnitRecord.{UnitRecord}
@@ -16,11 +16,10 @@ use Rattle.records.specs.Layouts.{dayDay, dayQuarters, dayRun, dayPositi
 use Rattle.records.specs.Layouts.{groupLength, groupBrp, groupZone, groupQuarter, groupCount, groupMade, groupAt}
 use Rattle.records.specs.Layouts.{unitNumber, unitClass, unitCoincide, unitNominated, unitN, unitPc, unitStepDown, unitStepUp, unitMade, unitAt, lengthOf}
 use Rattle.records.specs.Layouts.{endLength, endGroups, endAt}
-use Rattle.records.specs.Longest.{longestUnit}
 use Rattle.records.specs.Reading.{dayEnd, dayFieldsOf, groupFieldsOf, endFieldsOf, unitHeadOf, unitEnd, placeFrom, unitFieldsOf, unitOf, unitsOf}
 use Rattle.records.proofs.Accepted.{units-accepted}
 use Rattle.records.proofs.Places.{place-from}
-use Rattle.records.proofs.UnitHeads.{unit-past, unit-most, unit-long, read-end, unit-moved, heads-alike}
+use Rattle.records.proofs.UnitHeads.{unit-past, unit-long, read-end, unit-moved}
 
 -- t has the first n bytes of s
 pub record Agree (s t : List ℕ) (n : ℕ) : Type 0 where
@@ -126,23 +125,3 @@ module _ (s t : List ℕ) (n : ℕ) (a : Agree s t n) where
       let within : unitEnd s at ≤ n = omega (arith, rest .ends, place-from s (unitEnd s at) left) in
       rw (unit-kept at floor run limit within (x .1 .0))
       (ap (λ (to : ℕ). unitsOf t to (x .0 .number + 1) run limit left) (ends-same at within) ∙ units-kept (unitEnd s at) (x .0 .number + 1) run limit left h (x .1 .1))
-
-  -- where s has those bytes too, and the longest units fit, they are read alike
-  module _ (far : n ≤ length s) where
-    unit-alike : (at floor run limit : ℕ) → at + longestUnit ≤ n → unitOf t at floor run limit ≡ unitOf s at floor run limit
-    unfolding unitOf unitFieldsOf
-    unit-alike at floor run limit h =
-        rw (heads-alike s t at (a .same at (omega arith)) (omega arith) (omega (arith, a .long)), unit-same at (omega (arith, unit-most s at)))
-
-    pub units-alike : (at floor run limit count : ℕ) → at + longestUnit * count ≤ n → unitsOf t at floor run limit count ≡ unitsOf s at floor run limit count
-    unfolding unitsOf next
-    units-alike at floor run limit zero h = refl
-    units-alike at floor run limit (suc left) h =
-        let most = unit-most s at in
-        rw (unit-alike at floor run limit (omega arith))
-        (go (unitOf s at floor run limit) λ u. ap (λ (to : ℕ). unitsOf t to (u .number + 1) run limit left) (ends-same at (omega arith)) ∙ units-alike (unitEnd s at) (u .number + 1) run limit left (omega arith))
-      where
-        go : (x : Reply UnitRecord) → ((u : UnitRecord) → unitsOf t (unitEnd t at) (u .number + 1) run limit left ≡ unitsOf s (unitEnd s at) (u .number + 1) run limit left)
-            → next x (λ u. unitsOf t (unitEnd t at) (u .number + 1) run limit left) ≡ next x (λ u. unitsOf s (unitEnd s at) (u .number + 1) run limit left)
-        go (is u) f = f u
-        go (refused number place) f = refl

@@ -3,7 +3,6 @@ use Prim.Native.Nat.{ℕ, _≤_, _<_}
 use mathlib.Core.Path.{_≡_}
 use mathlib.Core.Bool.{true}
 use mathlib.Core.List.{List}
-use native.Mathlib.Omega.{arith}
 use lib.Dec.{leb}
 use lib.ListN.{length}
 use borrow.Author.Tests.{ltb-true, leb-true}
@@ -14,15 +13,11 @@ use Rattle.records.specs.declared.day.DayRecord.{DayRecord}
 use Rattle.records.specs.declared.group.GroupRecord.{GroupRecord}
 use Rattle.records.specs.declared.key.Last.{Last}
 use Rattle.records.specs.Layouts.{dayKind, dayLength, dayAt, groupAt}
-use Rattle.records.specs.Longest.{longestBlock}
 use Rattle.records.specs.Reading.{permitted, follows, keyOf, dayHeadOf, dayEnd, dayOf, dayFieldsOf, groupHeadOf, groupOf, groupFieldsOf}
 use Rattle.records.proofs.Heads.{headed, head-end}
 use Rattle.records.proofs.Checks.{both}
 
 -- ---- the day record
-pub day-short : (s : List ℕ) → dayEnd s ≤ longestBlock
-day-short s = omega arith
-
 module _ (s : List ℕ) {end : ℕ} (e : dayHeadOf s ≡ is end) where
   pub day-ends : dayEnd s ≡ end
   day-ends = head-end s 0 dayKind dayLength e

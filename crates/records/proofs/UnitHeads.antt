@@ -4,11 +4,9 @@ use mathlib.Core.Path.{_≡_, sym, ap, _∙_}
 use mathlib.Core.Bool.{true}
 use mathlib.Core.List.{List}
 use native.Mathlib.Omega.{arith}
-use lib.Dec.{eqb, leb}
 use lib.ListN.{length}
-use borrow.Author.Tests.{leb-true, lt-ltb, le-leb, eq-eqb}
+use borrow.Author.Tests.{lt-ltb, le-leb, eq-eqb}
 use Rattle.numbers.specs.Bytes.{byteAt}
-use Rattle.numbers.proofs.Choices.{and-both}
 use Rattle.terms.specs.Reply.{is, need}
 use Rattle.terms.proofs.Replies.{next-is}
 use Rattle.records.specs.declared.unit.UnitRecord.{UnitRecord}
@@ -64,15 +62,3 @@ module _ (s t : List ℕ) (at to : ℕ) (b : byteAt t to ≡ byteAt s at) where
       let k = b ∙ headed s at unitKind unitLength e .first in
       let m : unitLength ≡ n = omega (arith, head-end s at unitKind unitLength e) in
       simp (k, lt-ltb to (length t) (omega arith), ap (λ (x : ℕ). to + x) m, le-leb (to + n) (length t) l)
-
--- where the longest would fit in both, whatever stands there
-pub heads-alike : (s t : List ℕ) (at : ℕ) → byteAt t at ≡ byteAt s at → at + longestUnit ≤ length s → at + longestUnit ≤ length t → unitHeadOf t at ≡ unitHeadOf s at
-unfolding headOf need
-heads-alike s t at b h k =
-    simp (
-      lt-ltb at (length s) (omega arith),
-      lt-ltb at (length t) (omega arith),
-      le-leb (at + unitLength) (length s) h,
-      le-leb (at + unitLength) (length t) k,
-      b,
-    )

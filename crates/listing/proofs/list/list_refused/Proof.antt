@@ -1,41 +1,27 @@
--- `list_refused` meets its contract: the line has the number, and the place further by that of the refusal.
-use mathlib.Core.Path.{_≡_}
-use native.Mathlib.Omega.{arith}
-use lib.ListN.{length}
-use Rattle.terms.specs.Refusals.{numberOf}
-use Rattle.listing.specs.Lines.{refusedLine}
-use Rattle.listing.specs.Listing.{further, listRefused}
+-- `list_refused` meets its contract: it waits, or the refusal is laid.
+use mathlib.Core.Path.{refl, sym, _∙_}
+use Rattle.numbers.proofs.Laid.{laid-none}
 use borrow.Author.Needs.{needs}
 use Rattle.listing.proofs.list.list_refused.Statement.{statement}
 use Rattle.listing.proofs.list.list_refused.Tie as tie
 
-wrapping-add-u64-requires : tie.Need-wrapping-add-u64-requires
-wrapping-add-u64-requires c κs = search needs
+must-wait-requires : tie.Need-must-wait-requires
+must-wait-requires c κs = search needs
 
-number-requires : tie.Need-number-requires
-number-requires c κs = search needs
+returns : tie.Need-returns
+returns c = rw (sym (c .before .must-wait .ensures) ∙ c .if1 .taken) (record { replied = refl; room = laid-none _ 0 })
 
-lay-refused-line-requires : tie.Need-lay-refused-line-requires
-lay-refused-line-requires c κs = search needs
+lay-stop-requires : tie.Need-lay-stop-requires
+lay-stop-requires c κs = search needs
 
 same-length : tie.Need-same-length
 same-length c = search needs
 
-returns : tie.Need-returns
-unfolding listRefused
-returns c =
-    let number = c .before .before .before in
-    let a = number .before .before .before .before .args in
-    let e = rw (number .number .ensures, number .before .before .wrapping-add-u64 .ensures) at (c .before .before .lay-refused-line .ensures) in
-    let w : c .before .before .lay-refused-line .result ≡ length (refusedLine (numberOf (a .r .why)) (further (a .place) (a .r .place))) = omega (arith, e .after) in
-    record { replied = rw w; room = e .room }
+returns-2 : tie.Need-returns-2
+returns-2 c =
+    let test = c .before .before .before .before in
+    rw (sym (test .before .must-wait .ensures) ∙ test .if1 .left) (c .before .before .lay-stop .ensures)
 
 pub list-refused-spec : {M : Type 1} → statement M
 list-refused-spec =
-    tie.close
-    (tie.spec
-    wrapping-add-u64-requires
-    number-requires
-    lay-refused-line-requires
-    same-length
-    returns)
+    tie.close (tie.spec must-wait-requires returns lay-stop-requires same-length returns-2)

@@ -59,7 +59,7 @@ returns c =
     let x = start .args in
     let o = rw (told .step .given .1) at (asked .offer .ensures) in
     let lists = rw (read .role-of .ensures) at (put .list-taken .ensures) in
-    rw (sym (taken (x .l .day) (now (x .s)) (now (x .result)) (start .pre .0) o (x .l .place))) lists
+    rw (sym (taken (x .l .day) (now (x .s)) (now (x .result)) (start .pre .0) o (x .l .place) (x .ended))) lists
 
 same-length-3 : tie.Need-same-length-3
 same-length-3 c = search needs
@@ -76,7 +76,7 @@ returns-2 c =
     let start = day .before .before .before .before in
     let x = start .args in
     let o = rw (told .r .given .1) at (asked .offer .ensures) in
-    rw (sym (refused (x .l .day) (now (x .s)) (now (x .result)) (start .pre .0) _ _ o (x .l .place))) (put .list-refused .ensures)
+    rw (sym (refused (x .l .day) (now (x .s)) (now (x .result)) (start .pre .0) _ _ o (x .l .place) (x .ended))) (put .list-refused .ensures)
 
 pub list-through-spec : {M : Type 1} → statement M
 list-through-spec =

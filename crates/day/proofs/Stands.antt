@@ -1,0 +1,215 @@
+-- A reply that is not 1 stands whatever bytes come behind: each test reads only bytes that are there, and only those of the length can turn out otherwise.
+use Prim.Native.Nat.{ℕ, zero, suc, _+_, _*_, _≤_, _<_}
+use mathlib.Core.Path.{_≡_, refl, sym, ap, _∙_}
+use mathlib.Core.Bool.{Bool, true, false}
+use mathlib.Core.List.{List, _++_}
+use native.Mathlib.Omega.{arith}
+use borrow.Author.Tests.{ltb-true, ltb-false, leb-true, lt-ltb, le-leb}
+use lib.Dec.{eqb, ltb}
+use lib.ListN.{length}
+use lib.Seq.{take-append-le}
+use Rattle.numbers.specs.Bytes.{byteAt}
+use Rattle.terms.specs.Reply.{Reply, is, refused, need, next}
+use Rattle.terms.specs.Refusals.{numberOf, whyOf, passed}
+use Rattle.terms.specs.declared.refusal.Fault.{Fault}
+use Rattle.terms.specs.declared.refusal.Fault.the-variants as F
+use Rattle.terms.specs.declared.refusal.Checked.{Checked}
+use Rattle.terms.specs.declared.refusal.Checked.the-variants.{Fine, Faulty}
+use Rattle.records.specs.declared.group.GroupRecord.{GroupRecord}
+use Rattle.records.specs.declared.unit.UnitRecord.{UnitRecord}
+use Rattle.records.specs.Layouts.{groupLength, unitLength, unitAt, lengthOf}
+use Rattle.records.specs.Reading.{headOf, unitHeadOf, unitEnd, placeFrom, dayFieldsOf, groupFieldsOf, endFieldsOf, faultPlace, unitFaults, unitFieldsOf, unitOf, unitsOf}
+use Rattle.records.specs.Longest.{longestUnit, longestBlock}
+use Rattle.records.proofs.Alike.{Agree, agree, day-kept, group-kept, end-kept, units-same}
+use Rattle.records.proofs.UnitHeads.{unit-most, read-long, unit-long}
+use Rattle.records.proofs.Read.{group-passed}
+use Rattle.walk.specs.declared.table.State.{State}
+use Rattle.walk.specs.declared.table.Role.{Role}
+use Rattle.walk.specs.declared.table.Role.the-variants as R
+use Rattle.walk.specs.Table.{headAt, headIn}
+use Rattle.walk.proofs.Bodies.{body-short}
+use Rattle.walk.proofs.Coming.{lengthIn}
+use Rattle.day.specs.declared.value.Day.{Day}
+use Rattle.blocks.specs.declared.check.Block.{Block}
+use Rattle.day.specs.Checking.{blockFieldsOf}
+use Rattle.day.specs.Offers.{headFor, dayTaken, blockTaken, endTaken, taken, offerOf, cutShort}
+use Rattle.day.proofs.ByKind.{head-came}
+
+-- the first reply, unless it is 1, is the second
+abbrev Stands : {A : Type 0} → Reply A → Reply A → Type 0
+Stands x y = cutShort x ≡ false → y ≡ x
+
+-- ---- reply by reply
+module _ {A B : Type 0} where
+  then : (x y : Reply A) (f g : A → Reply B) → Stands x y → ((a : A) → x ≡ is a → Stands (f a) (g a)) → Stands (next x f) (next y g)
+  unfolding next
+  then (is a) y f g h k c = rw (h refl) (k a refl c)
+  then (refused n p) y f g h k c = rw (h c)
+
+module _ {A : Type 0} (x y : Reply A) where
+  -- a test that comes out alike
+  tested : (t : Bool) (n p : ℕ) → Stands x y → Stands (need t n p x) (need t n p y)
+  unfolding need
+  tested true n p h c = h c
+  tested false n p h c = refl
+
+  -- a test whether bytes are there: more of them do no harm
+  there : (t u : Bool) (p q : ℕ) → (t ≡ true → u ≡ true) → (t ≡ true → Stands x y) → Stands (need t 1 p x) (need u 1 q y)
+  unfolding need
+  there true u p q m h c = rw (m refl) (h refl c)
+  there false u p q m h c =
+      let z : _≡_ {A = ℕ} 0 1 = cc in
+      absurd (omega arith)
+
+module _ (s t : List ℕ) (a : Agree s t (length s)) where
+  -- ---- units
+  unit-same : (at : ℕ) → unitEnd s at ≤ length s → unitAt t at ≡ unitAt s at
+  unfolding placeFrom
+  unit-same at h = units-same s t (length s) a at 0 h
+
+  unit-head-stands : (at : ℕ) → Stands (unitHeadOf s at) (unitHeadOf t at)
+  unfolding headOf
+  unit-head-stands at =
+      there _ _ _ _ _ _ (λ e. lt-ltb at (length t) (omega (arith, ltb-true at (length s) e, a .long))) λ e.
+      rw (a .same at (ltb-true at (length s) e))
+      (tested _ _ _ 2 at
+      (there _ _ _ _ _ _ (λ f. le-leb (at + unitLength) (length t) (omega (arith, leb-true (at + unitLength) (length s) f, a .long))) λ f c. refl))
+
+  unit-stands : (at floor run limit : ℕ) → Stands (unitOf s at floor run limit) (unitOf t at floor run limit)
+  unfolding unitOf unitFieldsOf
+  unit-stands at floor run limit = then _ _ _ _ (unit-head-stands at) λ end e c. rw (unit-same at (read-long s at e))
+
+  units-stand : (at floor run limit count : ℕ) → Stands (unitsOf s at floor run limit count) (unitsOf t at floor run limit count)
+  unfolding unitsOf
+  units-stand at floor run limit zero = λ c. refl
+  units-stand at floor run limit (suc left) =
+      then _ _ _ _ (unit-stands at floor run limit) λ u e c.
+      let k : unitEnd t at ≡ unitEnd s at = ap (λ (v : UnitRecord). at + lengthOf v) (unit-same at (unit-long s at floor run limit e)) in
+      ap (λ (to : ℕ). unitsOf t to (u .number + 1) run limit left) k ∙ units-stand (unitEnd s at) (u .number + 1) run limit left c
+
+  -- ---- what is offered
+  block-stands : (day : Day) (room : ℕ) → groupLength ≤ length s → Stands (blockTaken day s room) (blockTaken day t room)
+  unfolding blockTaken blockFieldsOf
+  block-stands day room h =
+      then _ _ _ _
+      (rw (group-kept s t (length s) a (day .«record») (day .last) h)
+      (then _ _ _ _ (λ c. refl) λ g e. then _ _ _ _ (units-stand groupLength 0 (day .«record» .run) (day .«record» .«margin_limit») (g .count)) λ end f c. refl))
+      λ block e c. refl
+
+  taken-stands : (day : Day) (room : ℕ) (role : Role) (end : ℕ) → lengthIn role s 0 ≤ length s → Stands (taken day s room role end) (taken day t room role end)
+  unfolding dayTaken endTaken
+  taken-stands day room R.Opens end h = λ c. rw (day-kept s t (length s) a h)
+  taken-stands day room R.Block end h = block-stands day room h
+  taken-stands day room R.Closes end h = λ c. rw (end-kept s t (length s) a (day .groups) h)
+
+  head-in-stands : (state : State) → Stands (headIn s 0 state) (headIn t 0 state)
+  unfolding headIn
+  head-in-stands state =
+      there _ _ _ _ _ _ (λ e. lt-ltb 0 (length t) (omega (arith, ltb-true 0 (length s) e, a .long))) λ e.
+      rw (a .same 0 (ltb-true 0 (length s) e))
+      (tested _ _ _ 2 0
+      (there _ _ _ _ _ _ (λ f. le-leb (headAt s 0 state .end) (length t) (omega (arith, leb-true (headAt s 0 state .end) (length s) f, a .long))) λ f c. refl))
+
+  head-stands : (day : Day) → Stands (headFor day s) (headFor day t)
+  unfolding headFor
+  head-stands day =
+      there _ _ _ _ _ _ (λ e. lt-ltb 0 (length t) (omega (arith, ltb-true 0 (length s) e, a .long))) λ e.
+      tested _ _ _ 2 0 (head-in-stands (day .state))
+
+  stands : (day : Day) (room : ℕ) → Stands (offerOf day s room) (offerOf day t room)
+  unfolding offerOf
+  stands day room =
+      then _ _ _ _ (head-stands day) λ head e.
+      let m = head-came day s head e in
+      taken-stands day room (head .role) (head .end) (omega (arith, m .end, m .long))
+
+-- where what is offered is not only cut short, the reply is the same whatever bytes follow
+pub offer-stands : (day : Day) (s t : List ℕ) (room : ℕ) → cutShort (offerOf day s room) ≡ false → offerOf day (s ++ t) room ≡ offerOf day s room
+offer-stands day s t room =
+    stands s (s ++ t) (agree s (s ++ t) (length s) (omega arith) (sym (take-append-le (length s) s t (omega arith)))) day room
+
+-- ---- with as many bytes as the longest block has, nothing is cut short
+module _ {A : Type 0} where
+  passes : (x : Reply A) (t : Bool) (n p : ℕ) → eqb n 1 ≡ false → cutShort x ≡ false → cutShort (need t n p x) ≡ false
+  unfolding need
+  passes x true n p m h = h
+  passes x false n p m h = m
+
+  fits : (x : Reply A) (t : Bool) (p : ℕ) → t ≡ true → cutShort x ≡ false → cutShort (need t 1 p x) ≡ false
+  unfolding need
+  fits x t p e h = rw e h
+
+  goes : {B : Type 0} (x : Reply B) (f : B → Reply A) → cutShort x ≡ false → ((b : B) → x ≡ is b → cutShort (f b) ≡ false) → cutShort (next x f) ≡ false
+  unfolding next
+  goes (is b) f h k = k b refl
+  goes (refused n p) f h k = h
+
+fault-other : (f : Fault) → eqb (numberOf (whyOf f)) 1 ≡ false
+fault-other F.Number = refl
+fault-other F.Class = refl
+fault-other F.Coincide = refl
+fault-other F.Nominated = refl
+fault-other F.NotNominated = refl
+fault-other F.N = refl
+fault-other F.Pc = refl
+fault-other F.StepDown = refl
+fault-other F.StepUp = refl
+fault-other F.Crossed = refl
+fault-other F.Age = refl
+
+module _ (s : List ℕ) where
+  unit-enough : (at floor run limit : ℕ) → at + longestUnit ≤ length s → cutShort (unitOf s at floor run limit) ≡ false
+  unfolding unitOf unitFieldsOf headOf passed
+  unit-enough at floor run limit h =
+      goes _ _
+      (fits _ _ _ (lt-ltb at (length s) (omega arith)) (passes _ _ 2 at refl (fits _ _ _ (le-leb (at + unitLength) (length s) (omega arith)) refl)))
+      λ end e. go (unitFaults (unitAt s at) floor run limit)
+    where
+      go : (x : Checked) → cutShort (passed (λ fault. at + faultPlace fault) x (is (unitAt s at))) ≡ false
+      go Fine = refl
+      go (Faulty f) = fault-other f
+
+  units-enough : (at floor run limit count : ℕ) → at + longestUnit * count ≤ length s → cutShort (unitsOf s at floor run limit count) ≡ false
+  unfolding unitsOf
+  units-enough at floor run limit zero h = refl
+  units-enough at floor run limit (suc left) h =
+      goes _ _ (unit-enough at floor run limit (omega arith)) λ u e.
+      units-enough (unitEnd s at) (u .number + 1) run limit left (omega (arith, unit-most s at))
+
+  module _ (most : longestBlock ≤ length s) where
+    block-enough : (day : Day) (room : ℕ) → cutShort (blockTaken day s room) ≡ false
+    unfolding blockTaken blockFieldsOf groupFieldsOf
+    block-enough day room =
+        goes _ _
+        (goes _ _ group-enough λ g e.
+        let p = group-passed s (day .«record») (day .last) e in
+        goes _ _ (units-enough groupLength 0 (day .«record» .run) (day .«record» .«margin_limit») (g .count) (omega (arith, p .most, ap (λ (x : GroupRecord). x .count) (p .value)))) λ end f. refl)
+        λ block e. passes _ _ 12 0 refl refl
+      where
+        group-enough : cutShort (groupFieldsOf s (day .«record») (day .last)) ≡ false
+        group-enough = passes _ _ 4 _ refl (passes _ _ 5 _ refl (passes _ _ 13 _ refl (passes _ _ 10 _ refl refl)))
+
+    taken-enough : (day : Day) (room : ℕ) (role : Role) (end : ℕ) → cutShort (taken day s room role end) ≡ false
+    unfolding dayTaken dayFieldsOf endTaken endFieldsOf
+    taken-enough day room R.Opens end = goes _ _ (passes _ _ 3 _ refl refl) λ d e. refl
+    taken-enough day room R.Block end = block-enough day room
+    taken-enough day room R.Closes end = goes _ _ (passes _ _ 14 _ refl refl) λ d e. refl
+
+    enough : (day : Day) (room : ℕ) → cutShort (offerOf day s room) ≡ false
+    unfolding offerOf headFor headIn
+    enough day room =
+        let long = le-leb (headAt s 0 (day .state) .end) (length s) (omega (arith, body-short (day .state) (byteAt s 0))) in
+        let some = lt-ltb 0 (length s) (omega arith) in
+        goes _ _ (fits _ _ _ some (passes _ _ 2 0 refl (fits _ _ _ some (passes _ _ 2 0 refl (fits _ _ _ long refl))))) λ head e.
+        taken-enough day room (head .role) (head .end)
+
+-- so what is cut short is shorter than the longest block
+pub cut-short : (day : Day) (s : List ℕ) (room : ℕ) → cutShort (offerOf day s room) ≡ true → length s < longestBlock
+cut-short day s room e = go (ltb (length s) longestBlock) refl
+  where
+    go : (t : Bool) → ltb (length s) longestBlock ≡ t → length s < longestBlock
+    go true q = ltb-true (length s) longestBlock q
+    go false q =
+        let f = enough s (ltb-false (length s) longestBlock q) day room in
+        let z : _≡_ {A = ℕ} 0 1 = cc in
+        absurd (omega arith)
