@@ -87,7 +87,7 @@ run() {
     trap stopped HUP INT TERM
     program <&3 2>&4 3<&- 4>&- 5<&- &
     ended=0
-    wait $! || ended=$?
+    wait $! 2>/dev/null || ended=$?
     trap - HUP INT TERM
     told=$(cat <&5)
 }
