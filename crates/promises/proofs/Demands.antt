@@ -1,0 +1,111 @@
+-- What the product promises, sentence by sentence: each statement is proved by the theorem that it cites.
+use Prim.Native.Nat.{ℕ, _≤_, _<_}
+use mathlib.Core.Path.{_≡_}
+use mathlib.Core.List.{List}
+use lib.IntN.{ℤ}
+use lib.ListN.{length, take}
+use Rattle.numbers.specs.Bytes.{Bytes, byteAt}
+use Rattle.terms.specs.Reply.{is}
+use Rattle.terms.specs.Refusals.{answer}
+use Rattle.terms.specs.declared.refusal.Refusal.{Refusal}
+use Rattle.terms.specs.declared.refusal.Answer.{Answer}
+use Rattle.group.specs.Group.{Group}
+use Rattle.group.specs.Columns.{judgement, sumsOf, Judges, SameOutcome}
+use Rattle.group.specs.declared.judge.Judgement.{Judgement}
+use Rattle.group.specs.Accepted.{Accepted}
+use Rattle.group.specs.Demand3.{Demand3}
+use Rattle.group.proofs.Unique.{judge-unique}
+use Rattle.group.proofs.Demand3.{group-demand3}
+use Rattle.records.specs.declared.day.DayRecord.{DayRecord}
+use Rattle.records.specs.declared.end.EndRecord.{EndRecord}
+use Rattle.records.specs.Layouts.{dayAt, groupAt, endAt, groupResultAt, unitResultAt}
+use Rattle.records.specs.Reading.{dayOf, endOf}
+use Rattle.writers.specs.Columns.{Columns}
+use Rattle.writers.specs.Results.{resultLength}
+use Rattle.writers.specs.Trips.{Values, columnsIn}
+use Rattle.writers.specs.Writing.{groupOver, DayWritten, BlockWritten, EndWritten}
+use Rattle.writers.proofs.Back.{day-back, block-back, end-back}
+use Rattle.walk.specs.declared.table.Role.the-variants.{Opens, Block, Closes}
+use Rattle.walk.specs.Table.{roleOf}
+use Rattle.blocks.specs.Blocks.{groupResult, blockKey, blockCount, blockGroup, unitResult}
+use Rattle.day.specs.declared.value.Day.{Day}
+use Rattle.day.specs.declared.offer.Step.{Step}
+use Rattle.day.specs.declared.offer.Offered.the-variants.{Taken, Refused}
+use Rattle.day.specs.Days.{fresh}
+use Rattle.day.specs.Offers.{Offers}
+use Rattle.day.proofs.Demands.{One, offer-answered, refusal-keeps, group-told, unit-told, block-fair}
+use Rattle.day.proofs.Again.{day-same, block-same, end-same}
+use Rattle.desk.specs.Desk.{Checks}
+use Rattle.desk.specs.Header.{Replied, CallTaken}
+use Rattle.desk.proofs.Told.{reply-in, call-fair}
+use Rattle.listing.specs.Whole.{dayList, Steps}
+use Rattle.listing.proofs.Whole.{list-whole}
+
+-- ---- 1. Every set of columns and every byte string gets a reply.
+-- A byte string, offered to any day with any room, gets one answer and leaves one content of the room.
+pub every-byte-string : (day : Day) (s room : List ℕ) → One day s room
+every-byte-string = offer-answered
+
+-- Two answers to one set of columns are one, and so are the columns written.
+pub every-set-of-columns : (g : Group) (first second third : List ℤ) (r q : Judgement) {x1 y1 x2 y2 x3 y3 : List ℤ}
+    → Judges g first second third (judgement r) x1 x2 x3 → Judges g first second third (judgement q) y1 y2 y3 → SameOutcome r q x1 y1 x2 y2 x3 y3
+every-set-of-columns = judge-unique
+
+-- The C call gives a length from 47 to 1,307 or minus 1 to minus 12.
+pub every-call : (day block room : List ℕ) {z : ℤ} {exit : List ℕ} → Checks day block room z exit → Replied z
+every-call = reply-in
+
+-- Every input has a list.
+pub every-input : (input : List ℕ) → Steps (record { day = fresh; place = 0 }) input (dayList input)
+every-input = list-whole
+
+-- A refused call writes nothing into lent memory, and the day stands as before.
+pub refused-writes-nothing : (day : Day) (s room : List ℕ) (f : Refusal) (back : Day) {exit : List ℕ} → Offers day s room (Refused f back) exit
+    → (back ≡ day) × (exit ≡ room)
+refused-writes-nothing = refusal-keeps
+
+-- ---- 2. Accepted groups come out exactly as the rule says, and both round trips hold.
+-- What our writers make reads back as the values given.
+module _ {room exit : List ℕ} {r : Answer} {n : ℕ} (done : answer r ≡ is n) where
+  pub day-reads-back : (d : DayRecord) → DayWritten d room r exit → (dayAt exit 0 ≡ d) × (dayOf exit ≡ is d)
+  day-reads-back = day-back done
+
+  pub block-reads-back : (brp zone quarter made : ℕ) (c : Columns) → BlockWritten brp zone quarter made c room r exit → Values (groupOver brp zone quarter made c) c exit
+  block-reads-back brp zone quarter made c w = block-back brp zone quarter made c done w
+
+  pub end-reads-back : (x : EndRecord) → EndWritten x room r exit → (endAt exit 0 ≡ x) × (endOf exit (x .groups) ≡ is x)
+  end-reads-back = end-back done
+
+module _ (day : Day) (s room : List ℕ) {step : Step} {exit : List ℕ} (o : Offers day s room (Taken step) exit) where
+  -- Three steps, verdicts, balance.
+  pub group-by-the-rule : roleOf (byteAt s 0) ≡ Block → groupResultAt exit 0 ≡ groupResult (blockKey s) (blockCount s) (sumsOf (blockGroup s))
+  group-by-the-rule = group-told day s room o
+
+  pub units-by-the-rule : roleOf (byteAt s 0) ≡ Block → (i : ℕ) → i < blockCount s → unitResultAt exit (resultLength i) ≡ unitResult s i
+  units-by-the-rule = unit-told day s room o
+
+  -- What is accepted, written again, gives the same bytes.
+  module _ (small : Bytes s) (lent : List ℕ) {left : List ℕ} {r : Answer} (fits : step .used ≤ length lent) where
+    pub day-written-again : roleOf (byteAt s 0) ≡ Opens → DayWritten (dayAt s 0) lent r left
+        → (answer r ≡ is (step .used)) × (take (step .used) left ≡ take (step .used) s)
+    day-written-again = day-same day s room o small lent fits
+
+    pub block-written-again : roleOf (byteAt s 0) ≡ Block
+        → BlockWritten (groupAt s 0 .brp) (groupAt s 0 .zone) (groupAt s 0 .quarter) (groupAt s 0 .made) (columnsIn s (blockCount s)) lent r left
+        → (answer r ≡ is (step .used)) × (take (step .used) left ≡ take (step .used) s)
+    block-written-again = block-same day s room o small lent fits
+
+    pub end-written-again : roleOf (byteAt s 0) ≡ Closes → EndWritten (endAt s 0) lent r left
+        → (answer r ≡ is (step .used)) × (take (step .used) left ≡ take (step .used) s)
+    end-written-again = end-same day s room o small lent fits
+
+  -- ---- 3. In step 2 the cut is fair: each sentence is a field of `Demand3`.
+  pub block-cut-fairly : roleOf (byteAt s 0) ≡ Block → Demand3 (blockGroup s)
+  block-cut-fairly = block-fair day s room o
+
+-- So it is of every group of columns that passes the checks, and of every block that the C call accepts.
+pub group-cut-fairly : (g : Group) → Accepted g → Demand3 g
+group-cut-fairly = group-demand3
+
+pub call-cut-fairly : (day block room : List ℕ) {n : ℕ} {exit : List ℕ} → CallTaken day block room n exit → Demand3 (blockGroup block)
+call-cut-fairly = call-fair

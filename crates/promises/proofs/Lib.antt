@@ -1,0 +1,2 @@
+-- What the product promises.
+pub mod Demands

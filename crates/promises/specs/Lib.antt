@@ -1,0 +1,1 @@
+-- No definition: each statement speaks of those below.
