@@ -49,7 +49,8 @@ fn all_turns(input: &mut [u8], output: &mut [u8]) -> Run
     let mut left = u64::MAX;
     while 0 < left && going {
         w = turn(w, input, output);
-        going = w.is_going();
+        let run = w.run;
+        going = run.is_going();
         left -= 1;
     }
     let last = flushed(w, output);

@@ -7,7 +7,7 @@ ghost use mathlib.Core.List.{_++_};
 ghost use Rattle.terms.specs.Refusals.{numberOf};
 ghost use Rattle.daylist.specs.Inner.{Places};
 ghost use Rattle.daylist.specs.declared.work.Run.the-variants.{Refused};
-ghost use Rattle.daylist.specs.Works.{freshWork, isGoing, advancedBy, stoppedBy, Wrote, Read, Refilled, Waited};
+ghost use Rattle.daylist.specs.Works.{freshWork, isGoing, advancedBy, stoppedBy, wroteBy, Wrote, Read, Refilled, Waited};
 use day::value::Day;
 use libc::STDIN_FILENO;
 use libc::STDOUT_FILENO;
@@ -25,6 +25,20 @@ pub enum Run {
     OutputFailed,
 }
 
+impl Run {
+    pub fn is_going(self) -> bool
+        ensures { λ r. ⌜ r ≡ isGoing self ⌝ }
+    {
+        match self {
+            Run::Going => true,
+            Run::Whole => false,
+            Run::Refused(_, _) => false,
+            Run::InputFailed => false,
+            Run::OutputFailed => false,
+        }
+    }
+}
+
 // The list so far; the bytes at hand lie from `from` to `end` of the input buffer, the first `full` bytes of the output buffer wait to be written.
 pub struct Work {
     pub listing: Listing,
@@ -33,21 +47,6 @@ pub struct Work {
     pub full: usize,
     pub ended: bool,
     pub run: Run,
-}
-
-impl Work {
-    pub fn is_going(self) -> bool
-        ensures { λ r. ⌜ r ≡ isGoing (self .run) ⌝ }
-    {
-        let run = self.run;
-        match run {
-            Run::Going => true,
-            Run::Whole => false,
-            Run::Refused(_, _) => false,
-            Run::InputFailed => false,
-            Run::OutputFailed => false,
-        }
-    }
 }
 
 pub fn fresh() -> Work
@@ -108,13 +107,11 @@ pub fn refused(w: Work, stop: Stop) -> Work
     stopped(w, Run::Refused(why.number(), stop.place), stop.written)
 }
 
-// The lines that wait are written; a run that nobody takes lines of ends, whatever it came to.
-pub fn flushed(w: Work, output: &[u8]) -> Work
-    requires { ⌜ Places w × (length (now output) ≡ 65536) ⌝ }
-    ensures { λ r. ⌜ Wrote w r × Places r ⌝ }
+// The lines that wait were handed over: a run whose lines are not taken ends, whatever it came to.
+fn wrote(w: Work, taken: bool) -> Work
+    requires { ⌜ Places w ⌝ }
+    ensures { λ r. ⌜ (r ≡ wroteBy w taken) × Places r ⌝ }
 {
-    let full = w.full;
-    let taken = io::write_all(STDOUT_FILENO, &output[..full]);
     let listing = w.listing;
     let run = if taken { w.run } else { Run::OutputFailed };
     Work {
@@ -125,6 +122,16 @@ pub fn flushed(w: Work, output: &[u8]) -> Work
         ended: w.ended,
         run,
     }
+}
+
+// The lines that wait are written.
+pub fn flushed(w: Work, output: &[u8]) -> Work
+    requires { ⌜ Places w × (length (now output) ≡ 65536) ⌝ }
+    ensures { λ r. ⌜ Wrote w r × Places r ⌝ }
+{
+    let full = w.full;
+    let taken = io::write_all(STDOUT_FILENO, &output[..full]);
+    wrote(w, taken)
 }
 
 // Moves the bytes from a place up to another to the front, and gives how many they are.
@@ -182,7 +189,8 @@ pub fn waited(w: Work, input: &mut [u8], output: &[u8]) -> Work
     ensures { λ r. ⌜ Waited w (now (input .entry)) r (now (input .exit)) × Places r ⌝ }
 {
     let flushed = flushed(w, output);
-    if flushed.is_going() {
+    let run = flushed.run;
+    if run.is_going() {
         return refilled(flushed, input);
     }
     flushed
