@@ -1,6 +1,7 @@
 # Sourced by the commands daylist and mkday, which have set `name`, `here`, `usage`, what they `make` and in whose words of the page they
-# tell refusals (`way`), and made `help`: what their words ask for, where the input comes from, a run of the program, and the exit
-# status. The four lines that say where things lie are others where it is installed.
+# tell refusals (`way`), and made `help` and, where they let choose among lines (`known`), `filtered`: what their words ask for, where
+# the input comes from, a run of the program, and the exit status. The four lines that say where things lie are others where it is
+# installed.
 version=$(cat "$here/VERSION")
 refusals=$here/docs/refusals.txt
 build() { "$here/tools/built" "$name"; }
@@ -19,9 +20,9 @@ tell() {
     exit 0
 }
 
-# Looks at the command's words; `file` and whether it was `given` is what is left of them.
+# Looks at the command's words; `file` and whether it was `given`, and which of the `known` choices was `chosen`, is what is left of them.
 read_words() {
-    given='' file=- over=
+    given='' file=- over='' chosen=
     for word; do
         case $over$word in
         --help | -h)
@@ -30,7 +31,12 @@ read_words() {
             ;;
         --version) tell "$name (Flehwella) $version" ;;
         --) over=yes ;;
-        -?*) misused "$word is not known" ;;
+        -?*)
+            case " ${known-} " in
+            *" $word "*) chosen=$word ;;
+            *) misused "$word is not known" ;;
+            esac
+            ;;
         *)
             [ -z "$given" ] || misused "one file at a time, and $word is a second one"
             given=yes file=$word
@@ -85,11 +91,33 @@ run() {
     exec 3<&0 4>"$said" 5<"$said"
     rm -f "$said"
     trap stopped HUP INT TERM
-    program <&3 2>&4 3<&- 4>&- 5<&- &
-    ended=0
-    wait $! 2>/dev/null || ended=$?
+    if [ "$chosen" ]; then
+        run_filtered
+    else
+        program <&3 2>&4 3<&- 4>&- 5<&- &
+        ended=0
+        wait $! 2>/dev/null || ended=$?
+    fi
     trap - HUP INT TERM
     told=$(cat <&5)
+    if [ -z "$told" ] && [ "${lost-}" ]; then told="$name: standard output cannot be written"; fi
+}
+
+# The same with only the lines that were `chosen`: the program comes last, so that a signal ends it, and what reads its lines ends with it.
+run_filtered() {
+    between=$(mktemp -d) || fail 'no temporary folder can be made'
+    trap 'rm -rf "$between"' EXIT
+    mkfifo "$between/lines" || exit 2
+    filtered <"$between/lines" 2>/dev/null 3<&- 4>&- 5<&- &
+    filter=$! ended=0 kept=0 lost=
+    program <&3 2>&4 >"$between/lines" 3<&- 4>&- 5<&- &
+    wait $! 2>/dev/null || ended=$?
+    wait $filter 2>/dev/null || kept=$?
+    case $kept in
+    0) ;;
+    141) ended=141 ;;
+    *) lost=yes ended=0 ;;
+    esac
 }
 
 # explain NUMBER: what the page says of a refusal.
