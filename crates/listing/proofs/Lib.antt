@@ -4,6 +4,7 @@ pub mod Spelling
 pub mod Pairs
 pub mod Parts
 pub mod Signs
+pub mod Same
 pub mod Replies
 pub mod Inside
 pub mod Unique

@@ -88,3 +88,13 @@ module _ (entry : List ℕ) (at : ℕ) where
 pub then-fields : (entry : List ℕ) (at : ℕ) {one two xs : List ℕ} (fields : List (List ℕ)) (m n j r : ℕ) → at + m + n ≤ length entry → Lays entry at xs m j one
     → Lays one j (spaced [] fields) n r two → Lays entry at (spaced xs fields) (m + n) r two
 then-fields entry at {xs = xs} fields m n j r h a b = rw (spaced-behind xs fields) (then entry at m n j r h a b)
+
+-- four fields, each at most so long
+pub four-fields : (entry : List ℕ) (at : ℕ) {one two three four w x y z : List ℕ} (m i j k r : ℕ) → at + m * 4 ≤ length entry → Lays entry at (32 ∷ w) m i one
+    → Lays one i (32 ∷ x) m j two → Lays two j (32 ∷ y) m k three → Lays three k (32 ∷ z) m r four → Lays entry at (spaced [] (w ∷ x ∷ y ∷ z ∷ [])) (m * 4) r four
+unfolding spaced
+four-fields entry at m i j k r h a b c d =
+    let q2 = then entry at m m i j (omega arith) a b in
+    let q3 = then entry at (m + m) m j k (omega arith) q2 c in
+    let q4 = then entry at (m + m + m) m k r (omega arith) q3 d in
+    within entry at (m + m + m + m) (m * 4) r (omega (arith, q4 .few)) q4

@@ -1,19 +1,22 @@
 // The parts of a line: its word, a field after one space, the line feed.
 ghost use mathlib.Core.Path.{_≡_};
 ghost use mathlib.Core.List.{[], _∷_};
-ghost use Prim.Native.Nat.{_+_, _≤_};
+ghost use Prim.Native.Nat.{_+_, _≤_, _<_};
 ghost use lib.ListN.{length};
+ghost use Rattle.numbers.specs.Bytes.{signed32};
 ghost use Rattle.listing.specs.Lines.{decimal, signedDecimal, u8Field, u16Field, u32Field, u64Field, i32Field};
 ghost use Rattle.listing.specs.Inner.{Lays, digitPairs};
+use crate::number::FEW;
 use crate::number::ZERO;
 use crate::number::digit_count;
 use crate::number::lay_digits;
 use crate::number::lay_few;
 use crate::number::long_count;
 use numbers::bytes::lay_u8;
+use numbers::signed::from_bits;
 use numbers::signed::magnitude;
 
-const SPACE: u8 = 32;
+pub const SPACE: u8 = 32;
 
 const MINUS: u8 = 45;
 
@@ -43,7 +46,7 @@ fn lay_number(out: &mut [u8], at: usize, front: u8, n: u32, pairs: &[u16]) -> us
     requires { ⌜ (at + 1 + length (decimal n) ≤ length (now out)) × (now pairs ≡ digitPairs) ⌝ }
     ensures { λ r. ⌜ Lays (now (out .entry)) at (front ∷ decimal n) (1 + length (decimal n)) r (now (out .exit)) ⌝ }
 {
-    if n < 10000 {
+    if n < FEW {
         return lay_few(out, at, front, n, pairs);
     }
     let count = digit_count(n);
@@ -99,6 +102,26 @@ pub fn lay_i32_field(out: &mut [u8], at: usize, z: i32, pairs: &[u16]) -> usize
         return lay_number(out, at + 1, MINUS, size, pairs);
     }
     lay_number(out, at, SPACE, size, pairs)
+}
+
+// The number that 32 bits stand for: whether they lie below FEW is asked before their sign, so that they are one load.
+pub fn lay_quantity(out: &mut [u8], at: usize, bits: u32, pairs: &[u16]) -> usize
+    requires { ⌜ (at + i32Field ≤ length (now out)) × (now pairs ≡ digitPairs) ⌝ }
+    ensures { λ r. ⌜ Lays (now (out .entry)) at (32 ∷ signedDecimal (signed32 bits)) i32Field r (now (out .exit)) ⌝ }
+{
+    if bits < FEW {
+        return lay_few(out, at, SPACE, bits, pairs);
+    }
+    lay_i32_field(out, at, from_bits(bits), pairs)
+}
+
+// A negative number of few digits, by its size.
+pub fn lay_below(out: &mut [u8], at: usize, size: u32, pairs: &[u16]) -> usize
+    requires { ⌜ (size < 10000) × ((at + i32Field ≤ length (now out)) × (now pairs ≡ digitPairs)) ⌝ }
+    ensures { λ r. ⌜ Lays (now (out .entry)) at (32 ∷ 45 ∷ decimal size) i32Field r (now (out .exit)) ⌝ }
+{
+    lay_u8(out, at, SPACE);
+    lay_few(out, at + 1, MINUS, size, pairs)
 }
 
 pub fn lay_feed(out: &mut [u8], at: usize) -> usize

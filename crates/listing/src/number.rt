@@ -11,6 +11,9 @@ use numbers::bytes::lay_u8;
 // The digit 0, in ASCII.
 pub const ZERO: u8 = 48;
 
+// Where a number has more digits than two pairs.
+pub const FEW: u32 = 10000;
+
 // The hundredth of a number of four digits.
 fn hundredth(n: u32) -> u32
     requires { ⌜ n < 10000 ⌝ }
