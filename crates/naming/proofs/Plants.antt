@@ -1,12 +1,11 @@
 -- A refusal of a unit's field names the first unit that does not pass: the offer's checks lead to its units, and the walk over them to its record.
 use Prim.Native.Nat.{ℕ, zero, suc, _+_, _-_, _≤_, _<_}
 use mathlib.Core.Path.{_≡_, refl, sym, ap, _∙_}
-use mathlib.Core.Bool.{Bool, true, false, _&&_, false≢true}
+use mathlib.Core.Bool.{Bool, true, false, false≢true}
 use mathlib.Core.List.{List}
 use native.Mathlib.Omega.{arith}
-use native.Mathlib.Nat.{sub-zero}
 use borrow.Author.Tests.{lt-ltb, le-ltb, le-leb, eq-eqb}
-use lib.Dec.{eqb, leb}
+use lib.Dec.{eqb}
 use lib.ListN.{length}
 use Rattle.numbers.specs.Bytes.{byteAt}
 use Rattle.numbers.specs.Choice.{pick}
@@ -23,7 +22,7 @@ use Rattle.records.specs.declared.group.GroupRecord.{GroupRecord}
 use Rattle.records.specs.Layouts as L
 use Rattle.records.specs.Reading.{unitEnd, placeFrom, unitPlace, unitIn, faultPlace, groupFieldsOf, dayFieldsOf, endFieldsOf, unitsOf}
 use Rattle.records.proofs.Heads.{headed}
-use Rattle.records.proofs.Places.{place-later, place-up, place-from}
+use Rattle.records.proofs.Places.{place-later, place-from}
 use Rattle.walk.specs.declared.table.Role.{Role}
 use Rattle.walk.specs.declared.table.Role.the-variants.{Opens, Block, Closes}
 use Rattle.walk.specs.declared.table.Head.{Head}
@@ -33,12 +32,10 @@ use Rattle.day.specs.Checking.{blockFieldsOf}
 use Rattle.day.specs.Offers.{headFor, dayTaken, blockTaken, endTaken, taken, offerOf}
 use Rattle.day.proofs.ByKind.{head-came, group-long}
 use Rattle.naming.specs.declared.spot.Spot.the-variants.{Unit}
-use Rattle.naming.specs.declared.named.Named.{Named}
-use Rattle.naming.specs.declared.named.Finding.{Finding}
 use Rattle.naming.specs.declared.named.Field.the-variants as F
 use Rattle.naming.specs.declared.named.Subject.the-variants as S
-use Rattle.naming.specs.Spots.{groupWhole, spotFrom, spotOf, recordAt, beforeAt}
-use Rattle.naming.specs.Naming.{keyIn, unitLayout, unitFieldAt, toldOf, findingOf, subjectOf, namedOf}
+use Rattle.naming.specs.Spots.{groupWhole, spotFrom, spotOf}
+use Rattle.naming.specs.Naming.{keyIn, unitLayout, unitFieldAt, toldOf, findingOf, namedOf}
 use Rattle.naming.specs.Plants.{ofUnit, faultField, faultHeld, Plant}
 use Rattle.naming.proofs.Failing.{next-from, either, need-past, First, first}
 

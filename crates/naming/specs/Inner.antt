@@ -1,5 +1,5 @@
 -- What inner functions ask of each other: no promise rests on it.
-use Prim.Native.Nat.{ℕ, _+_, _≤_}
+use Prim.Native.Nat.{ℕ, _≤_}
 use mathlib.Core.Path.{_≡_}
 use mathlib.Core.List.{List}
 use Rattle.naming.specs.declared.spot.Spot.{Spot}

@@ -1,5 +1,4 @@
 // A refusal named in one line: BRP, zone, quarter and unit where they are at hand, the field, the value read and what it was held against.
-ghost use lib.ListN.{length};
 ghost use Rattle.naming.specs.Words.{Names};
 use crate::named::name_values;
 use crate::words::lay_line;

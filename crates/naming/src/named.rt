@@ -4,7 +4,7 @@ ghost use Prim.Native.Nat.{_≤_};
 ghost use Rattle.records.specs.Layouts.{groupAt};
 ghost use Rattle.records.specs.Reading.{keyOf};
 ghost use Rattle.naming.specs.Inner.{Near};
-ghost use Rattle.naming.specs.Spots.{recordAt, beforeAt};
+ghost use Rattle.naming.specs.Spots.{recordAt};
 ghost use Rattle.naming.specs.Naming.{unitFieldAt, unitValueAt, valueIn, kindSubject, frontSubject, unitSubject, subjectOf, flagHeld, ageHeld, toldOf};
 ghost use Rattle.naming.specs.Naming.{numberFinding, flagFinding, rangeFinding, crossedFinding, positionsFinding, marginsFinding, findingOf, namedOf};
 use crate::reading::byte;
