@@ -3,3 +3,4 @@ pub mod Spots
 pub mod Failing
 pub mod Plants
 pub mod Laying
+pub mod Inside
