@@ -20,7 +20,7 @@ use crate::field::lay_u16_field;
 use crate::field::lay_u32_field;
 use crate::field::lay_u64_field;
 use crate::field::lay_word;
-use crate::number::PAIRS;
+use crate::table::PAIRS;
 use numbers::bytes::i32_at;
 use numbers::bytes::u16_at;
 use records::day::DayRecord;
