@@ -3,3 +3,4 @@ pub mod Buffers
 pub mod Filling
 pub mod Looping
 pub mod Handed
+pub mod Refusing

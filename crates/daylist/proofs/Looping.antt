@@ -5,11 +5,11 @@ use mathlib.Core.Bool.{Bool, true}
 use mathlib.Core.List.{List, [], _++_}
 use native.Mathlib.Omega.{arith}
 use lib.ListN.{length}
-use Rattle.daylist.specs.declared.work.Run.{Run}
 use Rattle.daylist.specs.declared.work.Work.{Work}
 use Rattle.daylist.specs.Inner.{Places}
 use Rattle.daylist.specs.Works.{freshWork, isGoing, Wrote, Turned}
-use Rattle.daylist.specs.Runs.{turnGave, turnHanded, Turns, begin, turn, Ran}
+use Rattle.daylist.specs.Runs.{turnGave, turnHanded, Turns, begin, turn}
+use Rattle.daylist.specs.Saying.{Ended}
 
 pub record Loops (input output : List ℕ) (w : Work) (going : Bool) : Type 0 where
   pub places : Places w
@@ -39,6 +39,10 @@ goes-on l g t p q s =
       turns = turn (l .turns) (sym (l .goes) ∙ g) (t .0);
     }
 
-pub ran : {input output : List ℕ} {w last : Work} {going : Bool} {run : Run} → Loops input output w going → Wrote w last → run ≡ last .run → Ran run
-ran {input} {output} {w} {last} l e r =
-    record { given = l .given; handed = l .handed; work = w; input = input; output = output; turns = l .turns; last = last; wrote = e; came = r }
+pub ended : {input output : List ℕ} {w last : Work} {going : Bool} → Loops input output w going → Wrote w last → Ended last input
+ended {input} {output} {w} {last} l e =
+    record {
+      ran = record { given = l .given; handed = l .handed; work = w; input = input; output = output; turns = l .turns; last = last; wrote = e; came = refl };
+      kept = refl;
+      bytes = refl;
+    }

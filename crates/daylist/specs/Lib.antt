@@ -2,3 +2,4 @@
 pub mod Inner
 pub mod Works
 pub mod Runs
+pub mod Saying

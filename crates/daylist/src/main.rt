@@ -5,13 +5,16 @@ ghost use lib.ListN.{length};
 ghost use Rattle.daylist.specs.Inner.{Places};
 ghost use Rattle.daylist.specs.declared.work.Run.the-variants.{Refused};
 ghost use Rattle.daylist.specs.Works.{isGoing, Turned};
-ghost use Rattle.daylist.specs.Runs.{Ran};
+ghost use Rattle.daylist.specs.Saying.{Ended};
 
+mod plant;
 mod work;
 
 use libc::STDERR_FILENO;
 use listing::list::Listed;
 use listing::list::list_next;
+use naming::name::LINE;
+use plant::plant_line;
 use work::Run;
 use work::Work;
 use work::advanced;
@@ -40,9 +43,9 @@ fn turn(w: Work, input: &mut [u8], output: &mut [u8]) -> Work
 }
 
 // Nothing says that the input ends, so the turns are counted down from a number that no run uses up.
-fn all_turns(input: &mut [u8], output: &mut [u8]) -> Run
+fn all_turns(input: &mut [u8], output: &mut [u8]) -> Work
     requires { ⌜ (length (now input) ≡ 65536) × (length (now output) ≡ 65536) ⌝ }
-    ensures { λ r. ⌜ Ran r ⌝ }
+    ensures { λ r. ⌜ Ended r (now (input .exit)) × Places r ⌝ }
 {
     let mut w = work::fresh();
     let mut going = true;
@@ -53,18 +56,28 @@ fn all_turns(input: &mut [u8], output: &mut [u8]) -> Run
         going = run.is_going();
         left -= 1;
     }
-    let last = flushed(w, output);
-    last.run
+    flushed(w, output)
 }
 
-fn say_refused(run: Run, number: u8, place: u64) -> bool
-    requires { ⌜ run ≡ Refused number place ⌝ }
+// The line of the refusal, which names the plant.
+fn say_plant(w: Work, input: &[u8]) -> bool
+    requires { ⌜ Places w × (length (now input) ≡ 65536) ⌝ }
+{
+    let mut line = [0; LINE];
+    let n = plant_line(w, input, &mut line);
+    io::write_all(STDERR_FILENO, b"daylist: ");
+    io::write_all(STDERR_FILENO, &line[..n])
+}
+
+fn say_refused(w: Work, number: u8, place: u64, input: &[u8]) -> bool
+    requires { ⌜ (w .run ≡ Refused number place) × (Ended w (now input) × (Places w × (length (now input) ≡ 65536))) ⌝ }
 {
     io::write_all(STDERR_FILENO, b"daylist: refused ");
     io::print_decimal(STDERR_FILENO, number as u64);
     io::write_all(STDERR_FILENO, b" at ");
     io::print_decimal(STDERR_FILENO, place);
-    io::write_all(STDERR_FILENO, b"\n")
+    io::write_all(STDERR_FILENO, b"\n");
+    say_plant(w, input)
 }
 
 fn say_input() -> bool {
@@ -79,11 +92,14 @@ fn say_output() -> bool {
 }
 
 // A list that is not whole is said to be so; where the turns were used up it is the input that did not end.
-fn say(run: Run) -> bool {
+fn say(w: Work, input: &[u8]) -> bool
+    requires { ⌜ Ended w (now input) × (Places w × (length (now input) ≡ 65536)) ⌝ }
+{
+    let run = w.run;
     match run {
         Run::Going => say_input(),
         Run::Whole => true,
-        Run::Refused(number, place) => say_refused(run, number, place),
+        Run::Refused(number, place) => say_refused(w, number, place, input),
         Run::InputFailed => say_input(),
         Run::OutputFailed => say_output(),
     }
@@ -92,5 +108,6 @@ fn say(run: Run) -> bool {
 fn main() {
     let mut input = io::large_buffer();
     let mut output = io::large_buffer();
-    say(all_turns(&mut input, &mut output));
+    let w = all_turns(&mut input, &mut output);
+    say(w, &input);
 }

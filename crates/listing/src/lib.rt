@@ -1,5 +1,6 @@
 // The day list: the lines of what a day accepts, and one step of the list.
-mod field;
+pub mod field;
 mod lines;
 pub mod list;
 mod number;
+pub mod table;

@@ -1,7 +1,7 @@
 -- `all_turns` is a run and ends: the turns left fall, and the turns so far are a run of them.
-use mathlib.Core.Path.{refl, sym, _∙_}
+use mathlib.Core.Path.{sym, _∙_}
 use native.Mathlib.Omega.{arith}
-use Rattle.daylist.proofs.Looping.{Loops, starts, goes-on, ran}
+use Rattle.daylist.proofs.Looping.{Loops, starts, goes-on, ended}
 use Rattle.daylist.proofs.all_turns.Statement.{statement}
 use Rattle.daylist.proofs.all_turns.Tie as tie
 
@@ -56,7 +56,7 @@ same-length-2 c =
     at .loop .inv .outputs ∙ sym (at .before .before .before .before .pre .1)
 
 returns : tie.Need-returns Inv-loop μ-loop
-returns c = ran (c .before .before .before .loop .inv) (c .flushed .ensures .0) refl
+returns c = (ended (c .before .before .before .loop .inv) (c .flushed .ensures .0), c .flushed .ensures .1)
 
 pub all-turns-spec : {M : Type 1} → statement M
 all-turns-spec =

@@ -1,0 +1,124 @@
+-- The first of some units that does not pass: those before it do, and the refusal is its own. By induction over the units, each read from where the one before ends.
+use Prim.Native.Nat.{ℕ, zero, suc, _+_, _≤_, _<_}
+use mathlib.Core.Path.{_≡_, refl, sym, ap, _∙_}
+use mathlib.Core.Bool.{Bool, true, false}
+use mathlib.Core.List.{List}
+use native.Mathlib.Omega.{arith}
+use Rattle.terms.specs.Reply.{Reply, is, refused, need, next}
+use Rattle.terms.specs.Refusals.{numberOf, whyOf, passed}
+use Rattle.terms.specs.declared.refusal.Fault.{Fault}
+use Rattle.terms.specs.declared.refusal.Checked.{Checked}
+use Rattle.terms.specs.declared.refusal.Checked.the-variants.{Fine, Faulty}
+use Rattle.terms.proofs.Replies.{never}
+use Rattle.records.specs.declared.unit.UnitRecord.{UnitRecord}
+use Rattle.records.specs.Layouts.{unitAt}
+use Rattle.records.specs.Reading.{headOf, unitHeadOf, unitEnd, placeFrom, faultPlace, unitFaults, unitFieldsOf, unitOf, unitsOf}
+use Rattle.records.proofs.Places.{place-later}
+
+-- a refusal by another number than a test's came after it
+pub need-past : {A : Type 0} (t : Bool) (m q : ℕ) (rest : Reply A) {n p : ℕ} → need t m q rest ≡ refused n p → (n ≡ m → ⊥) → rest ≡ refused n p
+unfolding need
+need-past true m q rest e h = e
+need-past false m q rest {n} {p} e h =
+    let z : n ≡ m = cc in
+    absurd (h z)
+
+-- a refusal came of the reading in front, or of what comes after it
+pub data From {A B : Type 0} (x : Reply A) (rest : A → Reply B) (n p : ℕ) : Type 0 where
+  front : x ≡ refused n p → From x rest n p
+  after : (a : A) → x ≡ is a → rest a ≡ refused n p → From x rest n p
+
+pub next-from : {A B : Type 0} (x : Reply A) (rest : A → Reply B) {n p : ℕ} → next x rest ≡ refused n p → From x rest n p
+unfolding next
+next-from (is a) rest e = after a refl e
+next-from (refused m q) rest {n} {p} e =
+    let z : m ≡ n = cc in
+    let y : q ≡ p = cc in
+    front (rw (z, y))
+
+pub either : {A B P : Type 0} {x : Reply A} {rest : A → Reply B} {n p : ℕ} → From x rest n p → (x ≡ refused n p → P) → ((a : A) → x ≡ is a → rest a ≡ refused n p → P) → P
+either (front h) f g = f h
+either (after a h k) f g = g a h k
+
+-- a refusal of a unit's field: neither 1 nor 2
+module _ (n p : ℕ) (high : 3 ≤ n) where
+  -- a head is refused by 1 or 2 alone
+  pub head-no : (s : List ℕ) (at kind len : ℕ) → headOf s at kind len ≡ refused n p → ⊥
+  unfolding headOf
+  head-no s at kind len e =
+      let a = need-past _ 1 _ _ e (λ z. omega arith) in
+      let b = need-past _ 2 _ _ a (λ z. omega arith) in
+      never (sym (need-past _ 1 _ _ b (λ z. omega arith)))
+
+  pub record Faulted (s : List ℕ) (at floor run limit : ℕ) : Type 0 where
+    pub fault : Fault
+    pub end : ℕ
+    pub head : unitHeadOf s at ≡ is end
+    pub number : n ≡ numberOf (whyOf fault)
+    pub place : p ≡ at + faultPlace fault
+
+  checks-no : (s : List ℕ) (at floor run limit end : ℕ) → unitHeadOf s at ≡ is end → (checks : Checked)
+      → _≡_ {A = Reply UnitRecord} (passed (λ fault. at + faultPlace fault) checks (is (unitAt s at))) (refused n p) → Faulted s at floor run limit
+  unfolding passed
+  checks-no s at floor run limit end h Fine e = never (sym e)
+  checks-no s at floor run limit end h (Faulty fault) e =
+      let a : numberOf (whyOf fault) ≡ n = cc in
+      let b : at + faultPlace fault ≡ p = cc in
+      record { fault = fault; end = end; head = h; number = sym a; place = sym b }
+
+  unit-no : (s : List ℕ) (at floor run limit : ℕ) → unitOf s at floor run limit ≡ refused n p → Faulted s at floor run limit
+  unfolding unitOf unitFieldsOf
+  unit-no s at floor run limit e = go (next-from (unitHeadOf s at) (λ _. unitFieldsOf s at floor run limit) e)
+    where
+      go : From (unitHeadOf s at) (λ _. unitFieldsOf s at floor run limit) n p → Faulted s at floor run limit
+      go (front h) = absurd (head-no s at _ _ h)
+      go (after end h f) = checks-no s at floor run limit end h (unitFaults (unitAt s at) floor run limit) f
+
+  -- the first that fails, of units that are not all accepted
+  pub record First (s : List ℕ) (at floor run limit left : ℕ) : Type 0 where
+    pub index : ℕ
+    pub fault : Fault
+    pub end : ℕ
+    pub counted : index < left
+    pub pass : unitsOf s at floor run limit index ≡ is (placeFrom s at index)
+    pub fails : unitsOf s at floor run limit (suc index) ≡ refused n p
+    pub head : unitHeadOf s (placeFrom s at index) ≡ is end
+    pub number : n ≡ numberOf (whyOf fault)
+    pub place : p ≡ placeFrom s at index + faultPlace fault
+
+  pub first : (s : List ℕ) (at floor run limit left : ℕ) → unitsOf s at floor run limit left ≡ refused n p → First s at floor run limit left
+  unfolding unitsOf placeFrom next
+  first s at floor run limit zero e = never (sym e)
+  first s at floor run limit (suc left) e =
+      go (next-from (unitOf s at floor run limit) (λ u. unitsOf s (unitEnd s at) (u .number + 1) run limit left) e) (λ u. first s (unitEnd s at) (u .number + 1) run limit left)
+    where
+      go : From (unitOf s at floor run limit) (λ u. unitsOf s (unitEnd s at) (u .number + 1) run limit left) n p
+          → ((u : UnitRecord) → unitsOf s (unitEnd s at) (u .number + 1) run limit left ≡ refused n p → First s (unitEnd s at) (u .number + 1) run limit left)
+          → First s at floor run limit (suc left)
+      go (front h) rest =
+          let f = unit-no s at floor run limit h in
+          record {
+            index = 0;
+            fault = f .fault;
+            end = f .end;
+            counted = omega arith;
+            pass = refl;
+            fails = rw h;
+            head = f .head;
+            number = f .number;
+            place = f .place;
+          }
+      go (after u h f) rest =
+          let r = rest u f in
+          let later = place-later s at (r .index) in
+          record {
+            index = suc (r .index);
+            fault = r .fault;
+            end = r .end;
+            counted = omega (arith, r .counted);
+            pass = rw h (r .pass ∙ ap is later);
+            fails = rw h (r .fails);
+            head = rw later at (r .head);
+            number = r .number;
+            place = rw later at (r .place);
+          }
