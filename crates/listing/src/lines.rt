@@ -136,6 +136,7 @@ fn is_same(result: &[u8], from: usize, first: u32) -> bool
 }
 
 // Four quantities, which stand one after another from a place of the result on: of a unit that was not changed they are one number.
+// The sums of a group are not, and go by lay_each: called from one place alone, this becomes part of the loop over units.
 fn lay_quantities(out: &mut [u8], at: usize, result: &[u8], from: usize, pairs: &[u16]) -> usize
     requires { ⌜ (now pairs ≡ digitPairs) × ((from + 16 ≤ length (now result)) × (at + i32Field * 4 ≤ length (now out))) ⌝ }
     ensures { λ r. ⌜ Lays (now (out .entry)) at (spaced [] (signedDecimal (signed32 (be32 (now (result .entry)) from)) ∷ signedDecimal (signed32 (be32 (now (result .entry)) (from + 4))) ∷ signedDecimal (signed32 (be32 (now (result .entry)) (from + 8))) ∷ signedDecimal (signed32 (be32 (now (result .entry)) (from + 12))) ∷ [])) (i32Field * 4) r (now (out .exit)) ⌝ }
@@ -158,7 +159,7 @@ fn lay_group_line(out: &mut [u8], at: usize, result: &[u8], pairs: &[u16]) -> us
 {
     let balance = i32_at(result, GroupResult::BALANCE);
     let front = lay_group_front(out, at, result, pairs);
-    let sums = lay_quantities(out, front, result, GroupResult::P, pairs);
+    let sums = lay_each(out, front, result, GroupResult::P, pairs);
     let balanced = lay_i32_field(out, sums, balance, pairs);
     lay_feed(out, balanced)
 }

@@ -21,8 +21,8 @@ i32-at-requires c κs = search needs
 lay-group-front-requires : tie.Need-lay-group-front-requires
 lay-group-front-requires c κs = search needs
 
-lay-quantities-requires : tie.Need-lay-quantities-requires
-lay-quantities-requires c κs = search needs
+lay-each-requires : tie.Need-lay-each-requires
+lay-each-requires c κs = search needs
 
 lay-i32-field-requires : tie.Need-lay-i32-field-requires
 lay-i32-field-requires c κs = search needs
@@ -50,8 +50,8 @@ returns c =
     let h : SFits w32 (read .i32-at .result) = record { sfits = read .i32-at .ok } in
     let four : List (List ℕ) = signedDecimal (signed32 (be32 r (resultP .place))) ∷ signedDecimal (signed32 (be32 r (resultS1 .place))) ∷ signedDecimal (signed32 (be32 r (resultS2 .place))) ∷ signedDecimal (signed32 (be32 r (resultS3 .place))) ∷ [] in
     let balance = rw (toZ-ofZ h, e) at (balanced .lay-i32-field .ensures) in
-    let fields = then-fields out i four longestGroupFront (i32Field * 4) (front .lay-group-front .result) (sums .lay-quantities .result) (omega (arith, s .pre .1 .1)) (front .lay-group-front .ensures) (sums .lay-quantities .ensures) in
-    let all = then out i (longestGroupFront + i32Field * 4) i32Field (sums .lay-quantities .result) (balanced .lay-i32-field .result) (omega (arith, s .pre .1 .1)) fields balance in
+    let fields = then-fields out i four longestGroupFront (i32Field * 4) (front .lay-group-front .result) (sums .lay-each .result) (omega (arith, s .pre .1 .1)) (front .lay-group-front .ensures) (sums .lay-each .ensures) in
+    let all = then out i (longestGroupFront + i32Field * 4) i32Field (sums .lay-each .result) (balanced .lay-i32-field .result) (omega (arith, s .pre .1 .1)) fields balance in
     then out i (longestGroupFront + i32Field * 5) 1 (balanced .lay-i32-field .result) (feed .lay-feed .result) (omega (arith, s .pre .1 .1)) all (feed .lay-feed .ensures)
 
 pub lay-group-line-spec : {M : Type 1} → statement M
@@ -60,7 +60,7 @@ lay-group-line-spec =
     (tie.spec
     i32-at-requires
     lay-group-front-requires
-    lay-quantities-requires
+    lay-each-requires
     lay-i32-field-requires
     lay-feed-requires
     same-length
