@@ -19,7 +19,7 @@ use Rattle.listing.specs.Listing.{further, Answer, accepts, refuses, waits, ful
 use Rattle.daylist.specs.declared.work.Run.{Run}
 use Rattle.daylist.specs.declared.work.Run.the-variants.{Going, Whole, Refused, InputFailed, OutputFailed}
 use Rattle.daylist.specs.declared.work.Work.{Work}
-use Rattle.daylist.specs.Works.{freshWork, isGoing, handOf, wroteBy, Refilled, more, none, Waited, unread, wrote, Turned, lists, stops, ends, writes, reads}
+use Rattle.daylist.specs.Works.{isGoing, handOf, wroteBy, Refilled, more, none, Waited, unread, wrote, Turned, lists, stops, ends, writes, reads}
 use Rattle.daylist.specs.Runs.{Turns, begin, turn}
 use Rattle.daylist.specs.Saying.{Ended, Says, names, silent, Named}
 use Rattle.daylist.proofs.Filling.{clash}
