@@ -13,10 +13,9 @@ use crate::decode::block_units;
 use crate::lay::lay_group_result;
 use crate::lay::lay_unit_results;
 use group::band::direction;
-use group::cut::take_off;
 use group::judge::Cut;
 use group::judge::cut_all;
-use group::judge::step3_all;
+use group::judge::steps_all;
 use group::judge::summed;
 use records::group::GroupRecord;
 use terms::quantity::Position;
@@ -40,8 +39,8 @@ fn write_rest(
     requires { ⌜ Cutting (now s) (p .0) cut (now why) (now n0) (now n1) (now losses) (now third) (now «step_up») (now room) × (length (now n2) ≡ length (now n0)) ⌝ }
     ensures { λ _. ⌜ now (room .exit) ≡ laidAt (now (room .entry)) 0 (blockResult (now (s .entry))) ⌝ }
 {
-    take_off(direction(cut.e), n1, losses, n2);
-    let s3 = step3_all(n0, n1, n2, third, step_up, why);
+    let d = direction(cut.e);
+    let s3 = steps_all(d, n0, n1, losses, n2, third, step_up, why);
     lay_unit_results(room, s, why, n0, n1, n2, third);
     lay_group_result(room, s, summed(p, cut, s3));
 }

@@ -6,9 +6,8 @@ ghost use lib.ListN.{length, getD};
 ghost use Rattle.numbers.specs.Column.{column, at};
 ghost use Rattle.numbers.specs.Sum.{sum};
 ghost use Rattle.group.specs.Group.{sizeOf, sizesOf};
-ghost use Rattle.group.specs.Inner.{lossOf, lossesOf, leftBy, zeros, Classed, SharedOut, Lost, Bearable};
+ghost use Rattle.group.specs.Inner.{lossOf, lossesOf, zeros, Classed, SharedOut, Bearable};
 use crate::band::direction;
-use crate::unit::nearer;
 use numbers::signed::magnitude;
 use terms::quantity::Direction;
 use terms::quantity::Standing;
@@ -107,17 +106,5 @@ pub fn losses_all(e: i32, n1: &[i32], class: &[u8], losses: &mut [u32])
 {
     if e != 0 {
         losses_into(e, n1, class, losses);
-    }
-}
-
-// Step 2 of every unit: it is brought nearer to zero by what it loses.
-pub fn take_off(d: Direction, n1: &[i32], losses: &[u32], n2: &mut [i32])
-    requires { ⌜ Lost (now n1) (now losses) (now n2) ⌝ }
-    ensures { λ _. ⌜ now (n2 .exit) ≡ leftBy d (now (n1 .entry)) (now (losses .entry)) ⌝ }
-{
-    let mut i = 0;
-    while i < n1.len() {
-        n2[i] = nearer(d, n1[i], losses[i]);
-        i += 1;
     }
 }

@@ -6,19 +6,20 @@ ghost use Rattle.group.specs.Group.{step1All, step3All, reasonsAll};
 ghost use Rattle.numbers.specs.Range.{Within};
 ghost use Rattle.numbers.specs.Sum.{sumZ};
 ghost use Rattle.group.specs.Columns.{asGroup, judgement, sumsBy, lengths, Judges};
-ghost use Rattle.group.specs.Inner.{Aligned, zeros, Judged, CutOff, Written, Explained};
+ghost use Rattle.group.specs.Inner.{Aligned, leftBy, Lost, zeros, Judged, CutOff, Written, Explained};
 use crate::band::Band;
 use crate::band::balance;
 use crate::band::direction;
 use crate::band::verdict;
 use crate::check::units;
 use crate::cut::losses_all;
-use crate::cut::take_off;
+use crate::unit::nearer;
 use crate::unit::reason;
 use crate::unit::step1;
 use crate::unit::step3;
 use numbers::signed::sum;
 use terms::check::is_count;
+use terms::quantity::Direction;
 use terms::quantity::Margins;
 use terms::quantity::Nomination;
 use terms::quantity::Position;
@@ -89,31 +90,37 @@ pub fn cut_all(
     Cut { band, s1, e }
 }
 
-// Step 3 of every unit, and S3; and its reason. Each unit's step-down margin gives way to n3, and whether its nomination is implicit, by 1 or 0, to its reason.
-pub fn step3_all(
+// Steps 2 and 3 of every unit, and S3; and its reason. Step 2 brings a unit nearer to zero by what it loses. Its step-down margin gives way to n3, and whether its nomination is implicit, by 1 or 0, to its reason.
+pub fn steps_all(
+    d: Direction,
     n0: &[i32],
     n1: &[i32],
-    n2: &[i32],
+    losses: &[u32],
+    n2: &mut [i32],
     third: &mut [i32],
     step_up: &[i32],
     why: &mut [u32],
 ) -> i32
-    requires { ⌜ Aligned (now n2) (now third) (now «step_up») (now third) × Explained (now why) (now n0) (now n1) (now n2) (now third) (now «step_up») ⌝ }
-    ensures { λ r. ⌜ (r ≡ sumZ (step3All (now (n2 .entry)) (now (third .entry)) (now («step_up» .entry))))
-        × (now (third .exit) ≡ step3All (now (n2 .entry)) (now (third .entry)) (now («step_up» .entry)))
-        × (now (why .exit) ≡ reasonsAll (now (why .entry)) (now (n0 .entry)) (now (n1 .entry)) (now (n2 .entry)) (now (third .exit)) (now (third .entry)) (now («step_up» .entry))) ⌝ }
+    requires { ⌜ Lost (now n1) (now losses) (now n2) ⌝ }
+    requires { ⌜ Aligned (leftBy d (now n1) (now losses)) (now third) (now «step_up») (now third) × Explained (now why) (now n0) (now n1) (leftBy d (now n1) (now losses)) (now third) (now «step_up») ⌝ }
+    ensures { λ r. ⌜ (now (n2 .exit) ≡ leftBy d (now (n1 .entry)) (now (losses .entry)))
+        × (r ≡ sumZ (step3All (now (n2 .exit)) (now (third .entry)) (now («step_up» .entry))))
+        × (now (third .exit) ≡ step3All (now (n2 .exit)) (now (third .entry)) (now («step_up» .entry)))
+        × (now (why .exit) ≡ reasonsAll (now (why .entry)) (now (n0 .entry)) (now (n1 .entry)) (now (n2 .exit)) (now (third .exit)) (now (third .entry)) (now («step_up» .entry))) ⌝ }
 {
     let mut s3 = 0;
     let mut i = 0;
-    while i < n2.len() {
+    while i < n1.len() {
         let m = Margins {
             step_down: third[i],
             step_up: step_up[i],
         };
-        let n3 = step3(n2[i], m);
+        let left = nearer(d, n1[i], losses[i]);
+        let n3 = step3(left, m);
+        n2[i] = left;
         third[i] = n3;
         s3 += n3;
-        why[i] = reason(why[i], n0[i], n1[i], n2[i], n3, m);
+        why[i] = reason(why[i], n0[i], n1[i], left, n3, m);
         i += 1;
     }
     s3
@@ -166,9 +173,9 @@ fn judged_through(
     ensures { λ r. ⌜ Written (p .0) (now (n0 .entry)) (now («step_down» .entry)) (now («step_up» .entry)) (now (class .entry)) r (now (n1 .exit)) (now (n2 .exit)) (now (n3 .exit)) ⌝ }
 {
     let cut = cut_all(p, n0, step_down, step_up, class, n1, losses);
-    take_off(direction(cut.e), n1, losses, n2);
     copy(step_down, n3);
-    let s3 = step3_all(n0, n1, n2, n3, step_up, why);
+    let d = direction(cut.e);
+    let s3 = steps_all(d, n0, n1, losses, n2, n3, step_up, why);
     summed(p, cut, s3)
 }
 

@@ -16,56 +16,54 @@ use Rattle.blocks.proofs.result.write_rest.Tie as tie
 direction-requires : tie.Need-direction-requires
 direction-requires c κs = search needs
 
-take-off-requires : tie.Need-take-off-requires
-take-off-requires c κs =
-    let s = c .before .before .before .before .before .before .before in
-    losing (s .pre .0) (s .pre .1)
+-- what stood before step 2, and where its direction is known
+abbrev entry : tie.After-direction → tie.Start
+entry c = c .before .before .before .before .before .before
 
--- what stood before step 2, and what that leaves
-abbrev entry : tie.After-take-off → tie.Start
-entry c = c .before .before .before .before .before .before .before .before
+abbrev turned-of : tie.After-steps-all → tie.After-direction
+turned-of c = c .before .before .before .before
 
-second-is : (c : tie.After-take-off) → let a = entry c .args in c .take-off .last .1 .1 .1 .0 ≡ leftBy (directionOf (a .cut .e)) (now (a .n1)) (now (a .losses))
-second-is c =
+-- what the units lose is taken off in the direction of the excess
+left-is : (c : tie.After-direction) → let a = entry c .args in leftBy (c .direction .result) (now (a .n1)) (now (a .losses)) ≡ leftBy (directionOf (a .cut .e)) (now (a .n1)) (now (a .losses))
+left-is c =
     let a = entry c .args in
-    let d = c .before .before .direction .ensures ∙ ap directionOf (toZ-ofZ (e-fits (entry c .pre .0))) in
-    c .take-off .ensures ∙ ap (λ (x : Direction). leftBy x (now (a .n1)) (now (a .losses))) d
+    let d = c .direction .ensures ∙ ap directionOf (toZ-ofZ (e-fits (entry c .pre .0))) in
+    ap (λ (x : Direction). leftBy x (now (a .n1)) (now (a .losses))) d
 
--- and what stood before step 3, and before the units were laid
-abbrev off : tie.After-step3-all → tie.After-take-off
-off c = c .before .before .before .before .before
+steps-all-requires : tie.Need-steps-all-requires
+steps-all-requires c κs =
+    let turned = c .before .before .before in
+    let s = entry turned in
+    let w = s .pre .0 in
+    (losing w (s .pre .1), (aligned w (left-is turned), explained w (left-is turned)))
 
-abbrev third-of : tie.After-lay-unit-results → tie.After-step3-all
-third-of c = c .before .before .before .before .before .before .before .before
+-- what stood before the units were laid
+abbrev done-of : tie.After-lay-unit-results → tie.After-steps-all
+done-of c = c .before .before .before .before .before .before .before .before .before
 
 abbrev laid-of : tie.After-slice-known5 → tie.After-lay-unit-results
 laid-of c = c .before .before .before .before .before .before .before
 
-step3-all-requires : tie.Need-step3-all-requires
-step3-all-requires c κs =
-    let o = c .before .before .before .before in
-    let w = entry o .pre .0 in
-    (aligned w (second-is o), explained w (second-is o))
+second-is : (c : tie.After-steps-all) → let a = entry (turned-of c) .args in c .steps-all .last .1 .1 .1 .1 .0 ≡ leftBy (directionOf (a .cut .e)) (now (a .n1)) (now (a .losses))
+second-is c = c .steps-all .ensures .0 ∙ left-is (turned-of c)
 
 lay-unit-results-requires : tie.Need-lay-unit-results-requires
 lay-unit-results-requires c κs =
-    let third = c .before .before .before .before .before .before .before in
-    let e = third .step3-all .ensures in
-    laying (entry (off third) .pre .0) (second-is (off third)) (e .0) (e .1) (e .2)
+    let done = c .before .before .before .before .before .before .before .before in
+    let e = done .steps-all .ensures in
+    laying (entry (turned-of done) .pre .0) (second-is done) (e .1) (e .2) (e .3)
 
 summed-requires : tie.Need-summed-requires
 summed-requires c κs =
-    let laid = c .before .before .before in
-    let third = third-of laid in
-    let e = third .step3-all .ensures in
-    let s3 : toZ w32 (ofZ w32 (third .step3-all .result)) ≡ third .step3-all .result = search needs in
-    summable (entry (off third) .pre .0) (second-is (off third)) (s3 ∙ e .0) (e .1)
+    let done = done-of (c .before .before .before) in
+    let e = done .steps-all .ensures in
+    let s3 : toZ w32 (ofZ w32 (done .steps-all .result)) ≡ done .steps-all .result = search needs in
+    summable (entry (turned-of done) .pre .0) (second-is done) (s3 ∙ e .1) (e .2)
 
 lay-group-result-requires : tie.Need-lay-group-result-requires
 lay-group-result-requires c κs =
     let laid = c .before .before .before .before in
-    let third = third-of laid in
-    let w = entry (off third) .pre .0 in
+    let w = entry (turned-of (done-of laid)) .pre .0 in
     (w .passed .long, omega (arith, laid .lay-unit-results .kept, w .enough))
 
 same-length : tie.Need-same-length
@@ -74,36 +72,35 @@ same-length c =
 
 same-length-2 : tie.Need-same-length-2
 same-length-2 c =
-    let third = third-of (laid-of c) in
-    third .step3-all .kept .1 .1 .1 .1 .1 .0
+    let done = done-of (laid-of c) in
+    done .steps-all .kept .1 .1 .1 .1 .1 .1 .1 .0
 
 same-length-3 : tie.Need-same-length-3
 same-length-3 c =
-    let third = third-of (laid-of c) in
-    third .step3-all .kept .1 .1 .1 .0
+    let done = done-of (laid-of c) in
+    done .steps-all .kept .1 .1 .1 .1 .1 .0
 
 same-length-4 : tie.Need-same-length-4
 same-length-4 c =
-    let third = third-of (laid-of c) in
-    off third .take-off .kept .1 .1 .1 .0
+    let done = done-of (laid-of c) in
+    done .steps-all .kept .1 .1 .1 .1 .0
 
 returns : tie.Need-returns
 returns c =
     let group = c .before .before in
     let sums = group .before in
     let laid = laid-of c in
-    let third = third-of laid in
-    let e = third .step3-all .ensures in
-    let s3 : toZ w32 (ofZ w32 (third .step3-all .result)) ≡ third .step3-all .result = search needs in
-    written (entry (off third) .pre .0) (second-is (off third)) (s3 ∙ e .0) (e .1) (e .2) (sums .summed .ensures) (laid .lay-unit-results .ensures) (group .lay-group-result .ensures)
+    let done = done-of laid in
+    let e = done .steps-all .ensures in
+    let s3 : toZ w32 (ofZ w32 (done .steps-all .result)) ≡ done .steps-all .result = search needs in
+    written (entry (turned-of done) .pre .0) (second-is done) (s3 ∙ e .1) (e .2) (e .3) (sums .summed .ensures) (laid .lay-unit-results .ensures) (group .lay-group-result .ensures)
 
 pub write-rest-spec : {M : Type 1} → statement M
 write-rest-spec =
     tie.close
     (tie.spec
     direction-requires
-    take-off-requires
-    step3-all-requires
+    steps-all-requires
     lay-unit-results-requires
     summed-requires
     lay-group-result-requires
