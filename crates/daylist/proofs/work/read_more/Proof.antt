@@ -1,43 +1,26 @@
--- `read_more` meets its contract: as many bytes came as the read told, or it failed.
-use mathlib.Core.Path.{refl}
-use Rattle.daylist.specs.Works.{gave, failed}
 use borrow.Author.Needs.{needs}
 use Rattle.daylist.proofs.work.read_more.Statement.{statement}
 use Rattle.daylist.proofs.work.read_more.Tie as tie
+use Rattle.daylist.proofs.work.read_more.Reads as reads
+use Rattle.daylist.proofs.work.read_more.Lts as lts
+use Rattle.daylist.proofs.work.read_gave.Reads as read-gave-reads
+use Rattle.libc.proofs.read.Reads as read-reads
 
+-- src/work.rt:186:9
 read-requires : tie.Need-read-requires
 read-requires c κs = search needs
 
-stopped-requires : tie.Need-stopped-requires
-stopped-requires c κs = search needs
+-- src/work.rt:187:5
+read-gave-requires : tie.Need-read-gave-requires
+read-gave-requires c κs = ?
 
+-- src/work.rt:182:1
 same-length : tie.Need-same-length
 same-length c = search needs
 
+-- src/work.rt:182:1
 returns : tie.Need-returns
-returns c = (failed (c .stopped .ensures .0), c .stopped .ensures .1)
-
-count-requires : tie.Need-count-requires
-count-requires c κs = search needs
-
-add-t15 : tie.Need-add-t15
-add-t15 c = search needs
-
-same-length-2 : tie.Need-same-length-2
-same-length-2 c = search needs
-
-returns-2 : tie.Need-returns-2
-returns-2 c = (gave (c .count .result) (c .count .ensures .0 .0) refl, search needs)
+returns c = ?
 
 pub read-more-spec : {M : Type 1} → statement M
-read-more-spec =
-    tie.close
-    (tie.spec
-    read-requires
-    stopped-requires
-    same-length
-    returns
-    count-requires
-    add-t15
-    same-length-2
-    returns-2)
+read-more-spec = tie.close (tie.spec read-requires read-gave-requires same-length returns)
