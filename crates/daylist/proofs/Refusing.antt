@@ -9,9 +9,9 @@ use lib.Seq.{length-take-le}
 use Rattle.numbers.specs.Choice.{pick}
 use Rattle.terms.specs.Refusals.{numberOf, noRefusal}
 use Rattle.terms.specs.declared.refusal.Refusal.{Refusal}
+use Rattle.day.specs.declared.value.Day.{Day}
 use Rattle.naming.specs.Words.{Names}
 use Rattle.naming.proofs.Inside.{name-inside}
-use Rattle.listing.specs.declared.list.Listing.{Listing}
 use Rattle.listing.proofs.Whole.{Refuses, step-refuses}
 use Rattle.daylist.specs.declared.work.Run.{Run}
 use Rattle.daylist.specs.declared.work.Run.the-variants.{Going, Whole, Refused, InputFailed, OutputFailed}
@@ -45,10 +45,6 @@ placeOn OutputFailed = 0
 
 -- ---- the last turn
 module _ {told : Refusal} {place : ℕ} where
-  -- the day refused the bytes at hand by this, and the place is that of the input
-  abbrev RefusedAt : Listing → List ℕ → Type 0
-  RefusedAt l s = Refuses l s (numberOf (told .why)) (told .place) place
-
   unlike : {P : Type 0} (run : Run) → isRefused run ≡ false → run ≡ Refused told place → P
   unlike run f e = clash (isRefused run) (ap isRefused e) f
 
@@ -68,7 +64,7 @@ module _ {told : Refusal} {place : ℕ} where
   unwaited g (wrote f) q = unfilled g f q
 
   turn-refuses : {w r : Work} {input output inputAfter outputAfter : List ℕ} → isGoing (w .run) ≡ true → Turned w input output r inputAfter outputAfter
-      → r .run ≡ Refused told place → RefusedAt (r .listing) (handOf r inputAfter)
+      → r .run ≡ Refused told place → Refuses (r .listing) (handOf r inputAfter) (numberOf (told .why)) (told .place) place
   turn-refuses {w = w} g (lists part a e i o) q = still (w .run) g (sym (ap (λ (x : Work). x .run) e) ∙ q)
   turn-refuses {w = w} {input = input} g (stops by there n a e i o) q =
       let came = sym (ap (λ (x : Work). x .run) e) ∙ q in
@@ -80,12 +76,12 @@ module _ {told : Refusal} {place : ℕ} where
   turn-refuses g (reads a f o) q = unwaited g f q
 
   turns-refuse : {given handed : List ℕ} {w : Work} {input output : List ℕ} → Turns given handed w input output → w .run ≡ Refused told place
-      → RefusedAt (w .listing) (handOf w input)
+      → Refuses (w .listing) (handOf w input) (numberOf (told .why)) (told .place) place
   turns-refuse begin q = unlike Going refl q
   turns-refuse (turn ts g t) q = turn-refuses g t q
 
   -- ---- what is written at last leaves the day and the bytes at hand
-  run-refuses : {w : Work} {input : List ℕ} → Ended w input → w .run ≡ Refused told place → RefusedAt (w .listing) (handOf w input)
+  run-refuses : {w : Work} {input : List ℕ} → Ended w input → w .run ≡ Refused told place → Refuses (w .listing) (handOf w input) (numberOf (told .why)) (told .place) place
   run-refuses {w} {input} d q =
       let r = d .ran in
       let left : w ≡ wroteBy (r .work) (r .wrote .taken) = sym (d .kept) ∙ r .wrote .left in
@@ -104,9 +100,9 @@ module _ {told : Refusal} {place : ℕ} where
       record { replied = f .replied; place = f .there; line = o }
 
 -- what is told to have been written lies in the line
-module _ {w : Work} {input : List ℕ} {told : Refusal} {entry exit : List ℕ} {n : ℕ} (o : Names (w .listing .day) (handOf w input) told entry n exit) (h : length exit ≡ length entry) where
+module _ {day : Day} {s : List ℕ} {r : Refusal} {entry exit : List ℕ} {n : ℕ} (o : Names day s r entry n exit) (h : length exit ≡ length entry) where
   pub said-inside : n ≤ length exit
-  said-inside = omega (arith, h, name-inside (w .listing .day) (handOf w input) told entry n exit o h)
+  said-inside = omega (arith, h, name-inside day s r entry n exit o h)
 
   pub said-whole : n ≡ length (take n exit)
   said-whole = sym (length-take-le n exit said-inside)

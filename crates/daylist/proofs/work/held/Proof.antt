@@ -1,14 +1,13 @@
+-- `held` meets its contract: the lines that wait lie in the buffer.
+use native.Mathlib.Omega.{arith}
+use lib.ListN.{length-take}
 use borrow.Author.Needs.{needs}
 use Rattle.daylist.proofs.work.held.Statement.{statement}
 use Rattle.daylist.proofs.work.held.Tie as tie
-use Rattle.daylist.proofs.work.held.Reads as reads
-use Rattle.daylist.proofs.work.held.Lts as lts
 
--- src/work.rt:134:5
 slice-aggregate-result : tie.Need-slice-aggregate-result
-slice-aggregate-result c = ?
+slice-aggregate-result c = simp length-take (omega arith)
 
--- src/work.rt:129:1
 returns : tie.Need-returns
 returns c = search needs
 
