@@ -5,18 +5,40 @@ use mathlib.Core.Bool.{Bool, true, false}
 use mathlib.Core.List.{List, [], _∷_, _++_, append-assoc, append-nil}
 use native.Mathlib.Omega.{arith}
 use borrow.Author.Tests.{lt-ltb, le-ltb}
+use lib.IntN.{ℤ, pos, negsuc}
+use lib.Signed.{ltZ}
 use lib.ListN.{length, take, drop, length-append, length-drop, drop-of-length-le}
 use lib.Seq.{length-take-le, take-all, take-append-le, take-at, drop-drop}
 use Rattle.numbers.specs.Bytes.{laidAt}
+use Rattle.numbers.proofs.Integers.{zarith}
 use Rattle.numbers.proofs.Laid.{laid-front, laid-none}
+use Rattle.libc.specs.Io.{Moved}
+use Rattle.io.specs.Counts.{clamped}
 use Rattle.listing.specs.declared.list.Listed.{Listed}
 use Rattle.listing.specs.Listing.{waits, answerOf, listOf, Lists}
 use Rattle.listing.proofs.Inside.{writtenBy, step-long}
 use Rattle.listing.proofs.Whole.{waits-short}
+use Rattle.daylist.specs.declared.work.Run.the-variants.{InputFailed}
 use Rattle.daylist.specs.declared.work.Work.{Work}
 use Rattle.daylist.specs.Inner.{Places}
-use Rattle.daylist.specs.Works.{isGoing, handOf, wroteBy, Wrote, Read, gave, failed, Refilled, more, none, Waited, unread, wrote, stepOf}
+use Rattle.daylist.specs.Works.{isGoing, handOf, stoppedBy, wroteBy, Wrote, readBy, Read, gave, failed, Refilled, more, none, Waited, unread, wrote, stepOf}
 use Rattle.daylist.proofs.Buffers.{hand-read, moved}
+
+-- ---- what a read answered, by its sign
+module _ (w : Work) (from end : ℕ) where
+  pub read-failed : (got : ℤ) → ltZ got (pos 0) ≡ true → stoppedBy w InputFailed 0 ≡ readBy w from end got
+  read-failed (pos n) e = absurd (omega zarith)
+  read-failed (negsuc n) e = refl
+
+  pub read-counted : (got : ℤ) (most n : ℕ) → ltZ got (pos 0) ≡ false → Moved most got → n ≡ clamped got most → readBy w from end (pos n) ≡ readBy w from end got
+  read-counted (pos k) most n e m c =
+      let all : n ≡ k = omega arith in
+      ap (λ (j : ℕ). readBy w from end (pos j)) all
+  read-counted (negsuc k) most n e m c = absurd (omega zarith)
+
+  pub read-answered : {free : List ℕ} {r : Work} (got : ℤ) → Moved (length free) got → r ≡ readBy w from end got → Read w from end free r
+  read-answered (pos n) m e = gave n m e
+  read-answered (negsuc n) m e = failed n e
 
 -- ---- more of the input, read into the part of the buffer behind the bytes at hand
 module _ {w r : Work} {input free : List ℕ} (p : Places w) (long : length input ≡ 65536) (post : List ℕ) where
@@ -27,7 +49,7 @@ module _ {w r : Work} {input free : List ℕ} (p : Places w) (long : length inpu
       (rw e
       (hand-read (w .from) (w .end) n input (free ++ post) (p .order) (omega (arith, p .hand))
       ∙ ap (λ (x : List ℕ). take (w .end - w .from) (drop (w .from) input) ++ x) (take-append-le n free post k)))
-  behind h (failed e) = none e
+  behind h (failed n e) = none n e
 
   -- once these were moved to the front
   in-front : 65536 ≤ w .end → Read w 0 (w .end - w .from) free r
@@ -44,7 +66,7 @@ module _ {w r : Work} {input free : List ℕ} (p : Places w) (long : length inpu
       ∙ ap (λ (j : ℕ). take j (moved input (w .from) m) ++ take n (free ++ post)) same
       ∙ ap (λ (x : List ℕ). x ++ take n (free ++ post)) (take-at (take m (drop (w .from) input)) (drop m input) m some)
       ∙ ap (λ (x : List ℕ). take m (drop (w .from) input) ++ x) (take-append-le n free post k)))
-  in-front h (failed e) = none e
+  in-front h (failed n e) = none n e
 
   pub behind-moved : (m : ℕ) (front : List ℕ) → m ≡ w .end - w .from → front ≡ moved input (w .from) (w .end - w .from) → 65536 ≤ w .end → Read w 0 m free r
       → Refilled w input r (take m front ++ (free ++ post))

@@ -8,6 +8,8 @@ use lib.ListN.{length, take}
 use lib.Seq.{drop-append-le}
 use Rattle.numbers.specs.Bytes.{laidAt}
 use Rattle.numbers.specs.Choice.{pick}
+use Rattle.terms.specs.Refusals.{numberOf}
+use Rattle.terms.specs.declared.refusal.Refusal.{Refusal}
 use Rattle.day.specs.Days.{fresh}
 use Rattle.listing.specs.declared.list.Listing.{Listing}
 use Rattle.listing.specs.declared.list.Part.{Part}
@@ -40,7 +42,7 @@ record Carries (given handed : List ℕ) (w : Work) (input output : List ℕ) : 
 is-going : (run : Run) → isGoing run ≡ true → run ≡ Going
 is-going Going e = refl
 is-going Whole e = clash (isGoing Whole) e refl
-is-going (Refused number place) e = clash (isGoing (Refused number place)) e refl
+is-going (Refused told place) e = clash (isGoing (Refused told place)) e refl
 is-going InputFailed e = clash (isGoing InputFailed) e refl
 is-going OutputFailed e = clash (isGoing OutputFailed) e refl
 
@@ -112,10 +114,11 @@ module _ {given handed : List ℕ} {w : Work} {input output : List ℕ} (c : Car
       subst (λ (x : List ℕ). Steps start (given ++ later) x)
       (sym (append-assoc (handed ++ held) (step .lines) rest) ∙ ap (λ (x : List ℕ). x ++ rest) (laid-held (part .written) (long a))) u
 
-  on-stops : (number place n : ℕ) → step .answer ≡ refuses number place n → Carries given handed (stoppedBy w (Refused number place) n) input laid
-  on-stops number place n a =
+  on-stops : (by : Refusal) (place n : ℕ) → step .answer ≡ refuses (numberOf (by .why)) (by .place) place n
+      → Carries given handed (stoppedBy w (Refused by place) n) input laid
+  on-stops by place n a =
       let u = c .onward g [] (step .lines) (λ _. refl) (stopped hand [] (w .ended) (65536 - w .full) refl (λ _. refl) (told a)) in
-      comes-to given handed (stoppedBy w (Refused number place) n) input laid (laid-fits n (long a)) refl
+      comes-to given handed (stoppedBy w (Refused by place) n) input laid (laid-fits n (long a)) refl
       (subst (λ (x : List ℕ). Steps start given x) (laid-held n (long a)) (rw (append-nil given) at u))
 
   on-ends : step .answer ≡ done → Carries given handed (stoppedBy w Whole 0) input output
@@ -149,7 +152,7 @@ module _ {given handed : List ℕ} {w : Work} {input output : List ℕ} (c : Car
       let t = rw (there, append-assoc hand bytes later) at s in
       let u = c .onward g (bytes ++ later) rest (λ q. clash (w .ended) q unended) t in
       subst (λ (x : List ℕ). Steps start (given ++ bytes ++ later) x) (passed-on rest) (rw (append-assoc given bytes later) u))
-  on-refilled {exit = exit} a (none e) = rw (e, append-nil given) (fails given (handed ++ held) (stoppedBy (wroteBy w true) InputFailed 0) exit output (omega arith) refl refl still-front)
+  on-refilled {exit = exit} a (none n e) = rw (e, append-nil given) (fails given (handed ++ held) (stoppedBy (wroteBy w true) InputFailed 0) exit output (omega arith) refl refl still-front)
 
   on-waited : {r : Work} {exit : List ℕ} → step .answer ≡ waits → (f : Waited w input r exit) → Carries (given ++ waitGave f) (handed ++ held) r exit output
   on-waited {exit = exit} a (unread e) = rw (e, append-nil given) (fails given (handed ++ held) (wroteBy w false) exit output (omega arith) refl refl still-front)
@@ -158,7 +161,7 @@ module _ {given handed : List ℕ} {w : Work} {input output : List ℕ} (c : Car
   turned : {r : Work} {inputAfter outputAfter : List ℕ} → (t : Turned w input output r inputAfter outputAfter)
       → Carries (given ++ turnGave t) (handed ++ turnHanded t) r inputAfter outputAfter
   turned (lists part a e i o) = rw (e, i, o, append-nil given, append-nil handed) (on-lists part a)
-  turned (stops number place n a e i o) = rw (e, i, o, append-nil given, append-nil handed) (on-stops number place n a)
+  turned (stops by place n a e i o) = rw (e, i, o, append-nil given, append-nil handed) (on-stops by place n a)
   turned (ends a e i o) = rw (e, i, o, append-nil given, append-nil handed) (on-ends a)
   turned (writes a e i o) = rw (e .left, i, o, append-nil given) (on-wrote (e .taken))
   turned (reads a f o) = rw o (on-waited a f)

@@ -11,7 +11,7 @@ use Rattle.daylist.specs.Works.{freshWork, isGoing, heldOf, Wrote, Refil
 -- the bytes that a turn's read gave
 abbrev pub refillGave : {w r : Work} {entry exit : List ℕ} → Refilled w entry r exit → List ℕ
 refillGave (more bytes e h) = bytes
-refillGave (none e) = []
+refillGave (none n e) = []
 
 abbrev pub waitGave : {w r : Work} {entry exit : List ℕ} → Waited w entry r exit → List ℕ
 waitGave (unread e) = []
@@ -19,7 +19,7 @@ waitGave (wrote f) = refillGave f
 
 abbrev pub turnGave : {w r : Work} {input output inputAfter outputAfter : List ℕ} → Turned w input output r inputAfter outputAfter → List ℕ
 turnGave (lists part a e i o) = []
-turnGave (stops number place n a e i o) = []
+turnGave (stops told place n a e i o) = []
 turnGave (ends a e i o) = []
 turnGave (writes a e i o) = []
 turnGave (reads a f o) = waitGave f
@@ -27,7 +27,7 @@ turnGave (reads a f o) = waitGave f
 -- the bytes that it handed to be written
 abbrev pub turnHanded : {w r : Work} {input output inputAfter outputAfter : List ℕ} → Turned w input output r inputAfter outputAfter → List ℕ
 turnHanded (lists part a e i o) = []
-turnHanded (stops number place n a e i o) = []
+turnHanded (stops told place n a e i o) = []
 turnHanded (ends a e i o) = []
 turnHanded {w} {output = output} (writes a e i o) = heldOf w output
 turnHanded {w} {output = output} (reads a f o) = heldOf w output
@@ -58,6 +58,6 @@ allHanded r = r .handed ++ heldOf (r .work) (r .output)
 abbrev pub isListed : Run → Bool
 isListed Going = false
 isListed Whole = true
-isListed (Refused number place) = true
+isListed (Refused told place) = true
 isListed InputFailed = false
 isListed OutputFailed = false

@@ -2,14 +2,13 @@
 use Prim.Native.Nat.{ℕ}
 use mathlib.Core.Path.{_≡_}
 use mathlib.Core.List.{List}
-use Rattle.terms.specs.Reply.{Reply, is}
-use Rattle.terms.specs.Refusals.{numberOf, refusal}
+use Rattle.terms.specs.Refusals.{refusal}
 use Rattle.terms.specs.declared.refusal.Refusal.{Refusal}
 use Rattle.records.specs.Longest.{longestResult}
-use Rattle.day.specs.declared.offer.Step.{Step}
 use Rattle.day.specs.Offers.{offerOf}
 use Rattle.listing.specs.Listing.{further}
 use Rattle.naming.specs.Words.{Names}
+use Rattle.daylist.specs.declared.work.Run.the-variants.{Refused}
 use Rattle.daylist.specs.declared.work.Work.{Work}
 use Rattle.daylist.specs.Works.{handOf}
 use Rattle.daylist.specs.Runs.{Ran}
@@ -20,19 +19,13 @@ pub record Ended (w : Work) (input : List ℕ) : Type 0 where
   pub kept : ran .last ≡ w
   pub bytes : ran .input ≡ input
 
--- what the list's day replies to the bytes at hand
-abbrev pub replyTo : Work → List ℕ → Reply Step
-replyTo w input = offerOf (w .listing .day) (handOf w input) longestResult
+-- what ended the run is this refusal
+pub record CameTo (w : Work) (told : Refusal) : Type 0 where
+  pub place : ℕ
+  pub run : w .run ≡ Refused told place
 
--- a refusal is named by its line; of what is accepted there is none
-pub data Says (w : Work) (input entry : List ℕ) (n : ℕ) (exit : List ℕ) : Type 0 where
-  names : (r : Refusal) → replyTo w input ≡ refusal r → Names (w .listing .day) (handOf w input) r entry n exit → Says w input entry n exit
-  silent : (step : Step) → replyTo w input ≡ is step → n ≡ 0 → exit ≡ entry → Says w input entry n exit
-
--- the refusal that a run came to, by its number and its place in the input, is the day's own of the bytes at hand, and the line is its line
-pub record Named (w : Work) (input : List ℕ) (by at : ℕ) (entry : List ℕ) (n : ℕ) (exit : List ℕ) : Type 0 where
-  pub told : Refusal
-  pub replied : replyTo w input ≡ refusal told
-  pub number : numberOf (told .why) ≡ by
+-- that refusal is what the list's day replies to the bytes at hand, its place in the input is the list's further by its own, and the line is its line
+pub record Named (w : Work) (input : List ℕ) (told : Refusal) (at : ℕ) (entry : List ℕ) (n : ℕ) (exit : List ℕ) : Type 0 where
+  pub replied : offerOf (w .listing .day) (handOf w input) longestResult ≡ refusal told
   pub place : at ≡ further (w .listing .place) (told .place)
   pub line : Names (w .listing .day) (handOf w input) told entry n exit

@@ -4,9 +4,12 @@ use mathlib.Core.Path.{_≡_}
 use mathlib.Core.Bool.{Bool, true, false}
 use mathlib.Core.List.{List, _++_}
 use lib.Dec.{eqb, ltb}
+use lib.IntN.{ℤ, pos, negsuc}
 use lib.ListN.{length, take, drop}
 use Rattle.numbers.specs.Bytes.{laidAt}
 use Rattle.numbers.specs.Choice.{pick}
+use Rattle.terms.specs.Refusals.{numberOf}
+use Rattle.terms.specs.declared.refusal.Refusal.{Refusal}
 use Rattle.day.specs.Days.{fresh}
 use Rattle.listing.specs.declared.list.Part.{Part}
 use Rattle.listing.specs.Listing.{accepts, refuses, waits, full, done, Outcome, listOf}
@@ -21,7 +24,7 @@ freshWork = record { listing = record { day = fresh; place = 0 }; from = 0; end 
 abbrev pub isGoing : Run → Bool
 isGoing Going = true
 isGoing Whole = false
-isGoing (Refused number place) = false
+isGoing (Refused told place) = false
 isGoing InputFailed = false
 isGoing OutputFailed = false
 
@@ -49,13 +52,14 @@ pub record Wrote (w r : Work) : Type 0 where
   pub taken : Bool
   pub left : r ≡ wroteBy w taken
 
--- a read gave so many bytes behind those at hand; where it gave none the input has ended
-abbrev pub readTo : Work → ℕ → ℕ → ℕ → Work
-readTo w from end n = record { listing = w .listing; from = from; end = end + n; full = w .full; ended = eqb n 0; run = w .run }
+-- what a read answered: so many bytes came behind those at hand, none where the input has ended; below 0 it failed, and that ends the run
+abbrev pub readBy : Work → ℕ → ℕ → ℤ → Work
+readBy w from end (pos n) = record { listing = w .listing; from = from; end = end + n; full = w .full; ended = eqb n 0; run = w .run }
+readBy w from end (negsuc n) = stoppedBy w InputFailed 0
 
 pub data Read (w : Work) (from end : ℕ) (free : List ℕ) (r : Work) : Type 0 where
-  gave : (n : ℕ) → n ≤ length free → r ≡ readTo w from end n → Read w from end free r
-  failed : r ≡ stoppedBy w InputFailed 0 → Read w from end free r
+  gave : (n : ℕ) → n ≤ length free → r ≡ readBy w from end (pos n) → Read w from end free r
+  failed : (n : ℕ) → r ≡ readBy w from end (negsuc n) → Read w from end free r
 
 -- ---- more of the input
 -- where the bytes at hand begin and end once there is room behind them: at the front where there was none
@@ -67,8 +71,8 @@ backOf w = pick (ltb (w .end) 65536) (w .end) (w .end - w .from)
 
 -- then those that a read gave are at hand behind them
 pub data Refilled (w : Work) (entry : List ℕ) (r : Work) (exit : List ℕ) : Type 0 where
-  more : (bytes : List ℕ) → r ≡ readTo w (frontOf w) (backOf w) (length bytes) → handOf r exit ≡ handOf w entry ++ bytes → Refilled w entry r exit
-  none : r ≡ stoppedBy w InputFailed 0 → Refilled w entry r exit
+  more : (bytes : List ℕ) → r ≡ readBy w (frontOf w) (backOf w) (pos (length bytes)) → handOf r exit ≡ handOf w entry ++ bytes → Refilled w entry r exit
+  none : (n : ℕ) → r ≡ readBy w (frontOf w) (backOf w) (negsuc n) → Refilled w entry r exit
 
 -- the list waits: the lines are written before more is read
 pub data Waited (w : Work) (entry : List ℕ) (r : Work) (exit : List ℕ) : Type 0 where
@@ -84,7 +88,7 @@ stepOf w input = listOf (w .listing) (handOf w input) (w .ended) (65536 - w .ful
 pub data Turned (w : Work) (input output : List ℕ) (r : Work) (inputAfter outputAfter : List ℕ) : Type 0 where
   lists : (part : Part) → stepOf w input .answer ≡ accepts part → r ≡ advancedBy w part → inputAfter ≡ input → outputAfter ≡ laidAt output (w .full) (stepOf w input .lines)
       → Turned w input output r inputAfter outputAfter
-  stops : (number place n : ℕ) → stepOf w input .answer ≡ refuses number place n → r ≡ stoppedBy w (Refused number place) n → inputAfter ≡ input
+  stops : (told : Refusal) (place n : ℕ) → stepOf w input .answer ≡ refuses (numberOf (told .why)) (told .place) place n → r ≡ stoppedBy w (Refused told place) n → inputAfter ≡ input
       → outputAfter ≡ laidAt output (w .full) (stepOf w input .lines) → Turned w input output r inputAfter outputAfter
   ends : stepOf w input .answer ≡ done → r ≡ stoppedBy w Whole 0 → inputAfter ≡ input → outputAfter ≡ output → Turned w input output r inputAfter outputAfter
   writes : stepOf w input .answer ≡ full → Wrote w r → inputAfter ≡ input → outputAfter ≡ output → Turned w input output r inputAfter outputAfter

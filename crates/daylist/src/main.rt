@@ -2,10 +2,11 @@
 ghost use mathlib.Core.Path.{_≡_};
 ghost use mathlib.Core.Bool.{true};
 ghost use lib.ListN.{length};
+ghost use Rattle.terms.specs.Refusals.{numberOf};
 ghost use Rattle.daylist.specs.Inner.{Places};
 ghost use Rattle.daylist.specs.declared.work.Run.the-variants.{Refused};
 ghost use Rattle.daylist.specs.Works.{isGoing, Turned};
-ghost use Rattle.daylist.specs.Saying.{Ended};
+ghost use Rattle.daylist.specs.Saying.{Ended, CameTo};
 
 mod plant;
 mod work;
@@ -15,6 +16,7 @@ use listing::list::Listed;
 use listing::list::list_next;
 use naming::name::LINE;
 use plant::plant_line;
+use terms::refusal::Refusal;
 use work::Run;
 use work::Work;
 use work::advanced;
@@ -60,46 +62,50 @@ fn all_turns(input: &mut [u8], output: &mut [u8]) -> Work
 }
 
 // The line of the refusal, which names the plant.
-fn say_plant(w: Work, input: &[u8]) -> bool
-    requires { ⌜ Places w × (length (now input) ≡ 65536) ⌝ }
+fn say_plant(w: Work, r: Refusal, input: &[u8])
+    requires { ⌜ CameTo w r × (Ended w (now input) × (Places w × (length (now input) ≡ 65536))) ⌝ }
 {
     let mut line = [0; LINE];
-    let n = plant_line(w, input, &mut line);
+    let n = plant_line(w, r, input, &mut line);
     io::write_all(STDERR_FILENO, b"daylist: ");
-    io::write_all(STDERR_FILENO, &line[..n])
+    io::write_all(STDERR_FILENO, &line[..n]);
 }
 
-fn say_refused(w: Work, number: u8, place: u64, input: &[u8]) -> bool
-    requires { ⌜ (w .run ≡ Refused number place) × (Ended w (now input) × (Places w × (length (now input) ≡ 65536))) ⌝ }
+fn say_refused(w: Work, r: Refusal, number: u8, place: u64, input: &[u8])
+    requires { ⌜ (w .run ≡ Refused r place) × ((number ≡ numberOf (r .why)) × (Ended w (now input) × (Places w × (length (now input) ≡ 65536)))) ⌝ }
 {
     io::write_all(STDERR_FILENO, b"daylist: refused ");
     io::print_decimal(STDERR_FILENO, number as u64);
     io::write_all(STDERR_FILENO, b" at ");
     io::print_decimal(STDERR_FILENO, place);
     io::write_all(STDERR_FILENO, b"\n");
-    say_plant(w, input)
+    say_plant(w, r, input);
 }
 
-fn say_input() -> bool {
-    io::write_all(STDERR_FILENO, b"daylist: standard input cannot be read\n")
+fn say_input() {
+    io::write_all(STDERR_FILENO, b"daylist: standard input cannot be read\n");
 }
 
-fn say_output() -> bool {
+fn say_output() {
     io::write_all(
         STDERR_FILENO,
         b"daylist: standard output cannot be written\n",
-    )
+    );
 }
 
 // A list that is not whole is said to be so; where the turns were used up it is the input that did not end.
-fn say(w: Work, input: &[u8]) -> bool
+fn say(w: Work, input: &[u8])
     requires { ⌜ Ended w (now input) × (Places w × (length (now input) ≡ 65536)) ⌝ }
 {
     let run = w.run;
     match run {
         Run::Going => say_input(),
-        Run::Whole => true,
-        Run::Refused(number, place) => say_refused(w, number, place, input),
+        Run::Whole => {}
+        Run::Refused(r, place) => {
+            let why = r.why;
+            let number = why.number();
+            say_refused(w, r, number, place, input)
+        }
         Run::InputFailed => say_input(),
         Run::OutputFailed => say_output(),
     }

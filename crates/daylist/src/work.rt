@@ -4,23 +4,24 @@ ghost use Prim.Native.Nat.{_+_, _-_, _≤_, _<_};
 ghost use lib.ListN.{length, take, drop};
 ghost use mathlib.Core.Bool.{true};
 ghost use mathlib.Core.List.{_++_};
-ghost use Rattle.terms.specs.Refusals.{numberOf};
+ghost use Rattle.libc.specs.Io.{Moved};
 ghost use Rattle.daylist.specs.Inner.{Places};
 ghost use Rattle.daylist.specs.declared.work.Run.the-variants.{Refused};
-ghost use Rattle.daylist.specs.Works.{freshWork, isGoing, advancedBy, stoppedBy, wroteBy, Wrote, Read, Refilled, Waited};
+ghost use Rattle.daylist.specs.Works.{freshWork, isGoing, heldOf, advancedBy, stoppedBy, wroteBy, Wrote, readBy, Read, Refilled, Waited};
 use day::value::Day;
 use libc::STDIN_FILENO;
 use libc::STDOUT_FILENO;
 use listing::list::Listing;
 use listing::list::Part;
 use listing::list::Stop;
+use terms::refusal::Refusal;
 
 // How far the run is: it goes on, the list is whole, or what ended it.
 pub enum Run {
     Going,
     Whole,
-    // The number of the refusal, and its place in the input.
-    Refused(u8, u64),
+    // The refusal, and its place in the input.
+    Refused(Refusal, u64),
     InputFailed,
     OutputFailed,
 }
@@ -101,10 +102,10 @@ pub fn stopped(w: Work, run: Run, n: usize) -> Work
 // A record or block was refused.
 pub fn refused(w: Work, stop: Stop) -> Work
     requires { ⌜ Places w × (w .full + stop .written ≤ 65536) ⌝ }
-    ensures { λ r. ⌜ (r ≡ stoppedBy w (Refused (numberOf (stop .why)) (stop .place)) (stop .written)) × Places r ⌝ }
+    ensures { λ r. ⌜ (r ≡ stoppedBy w (Refused (stop .refusal) (stop .place)) (stop .written)) × Places r ⌝ }
 {
-    let why = stop.why;
-    stopped(w, Run::Refused(why.number(), stop.place), stop.written)
+    let told = stop.refusal;
+    stopped(w, Run::Refused(told, stop.place), stop.written)
 }
 
 // The lines that wait were handed over: a run whose lines are not taken ends, whatever it came to.
@@ -124,13 +125,21 @@ fn wrote(w: Work, taken: bool) -> Work
     }
 }
 
+// The lines that wait.
+fn held(w: Work, output: &[u8]) -> &[u8]
+    requires { ⌜ Places w × (length (now output) ≡ 65536) ⌝ }
+    ensures { λ r. ⌜ now r ≡ heldOf w (now (output .entry)) ⌝ }
+{
+    let full = w.full;
+    &output[..full]
+}
+
 // The lines that wait are written.
 pub fn flushed(w: Work, output: &[u8]) -> Work
     requires { ⌜ Places w × (length (now output) ≡ 65536) ⌝ }
     ensures { λ r. ⌜ Wrote w r × Places r ⌝ }
 {
-    let full = w.full;
-    let taken = io::write_all(STDOUT_FILENO, &output[..full]);
+    let taken = io::write_all(STDOUT_FILENO, held(w, output));
     wrote(w, taken)
 }
 
@@ -148,17 +157,16 @@ fn move_front(input: &mut [u8], from: usize, end: usize) -> usize
     n
 }
 
-// What a read gave: so many bytes, none where the input has ended; one that fails is no end of the input.
-fn read_more(w: Work, from: usize, end: usize, free: &mut [u8]) -> Work
-    requires { ⌜ Places w × ((from ≤ end) × ((end + length (now free) ≤ 65536) × (0 < length (now free)))) ⌝ }
-    ensures { λ r. ⌜ Read w from end (now (free .exit)) r × Places r ⌝ }
+// What a read answered: so many bytes came, none where the input has ended; one that fails is no end of the input.
+fn read_gave(w: Work, from: usize, end: usize, got: isize, free: &[u8]) -> Work
+    requires { ⌜ Places w × ((from ≤ end) × ((end + length (now free) ≡ 65536) × Moved (length (now free)) got)) ⌝ }
+    ensures { λ r. ⌜ (r ≡ readBy w from end got) × Places r ⌝ }
 {
-    let listing = w.listing;
-    let got = libc::read(STDIN_FILENO, free);
     if got < 0 {
         return stopped(w, Run::InputFailed, 0);
     }
     let n = io::count(got, free);
+    let listing = w.listing;
     let run = w.run;
     Work {
         listing,
@@ -168,6 +176,15 @@ fn read_more(w: Work, from: usize, end: usize, free: &mut [u8]) -> Work
         ended: n == 0,
         run,
     }
+}
+
+// More is read into the room behind the bytes at hand, which is all that the buffer has there.
+fn read_more(w: Work, from: usize, end: usize, free: &mut [u8]) -> Work
+    requires { ⌜ Places w × ((from ≤ end) × ((end + length (now free) ≡ 65536) × (0 < length (now free)))) ⌝ }
+    ensures { λ r. ⌜ Read w from end (now (free .exit)) r × Places r ⌝ }
+{
+    let got = libc::read(STDIN_FILENO, free);
+    read_gave(w, from, end, got, free)
 }
 
 // More of the input is read, behind the bytes at hand, which are moved to the front where there is no room behind them.

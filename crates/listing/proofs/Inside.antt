@@ -21,14 +21,14 @@ use Rattle.listing.specs.Listing.{Answer, accepts, refuses, waits, full,
 -- the bytes that an answer tells as used, and as written
 abbrev pub usedBy : Answer → ℕ
 usedBy (accepts p) = p .used
-usedBy (refuses number place n) = 0
+usedBy (refuses number inside place n) = 0
 usedBy waits = 0
 usedBy full = 0
 usedBy done = 0
 
 abbrev pub writtenBy : Answer → ℕ
 writtenBy (accepts p) = p .written
-writtenBy (refuses number place n) = n
+writtenBy (refuses number inside place n) = n
 writtenBy waits = 0
 writtenBy full = 0
 writtenBy done = 0

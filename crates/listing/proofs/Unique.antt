@@ -16,21 +16,21 @@ use Rattle.listing.specs.Listing.{Answer, accepts, refuses, waits, full,
 -- an answer leads back to what was answered, but for why it is refused, which its number tells
 abbrev whyIn : Listed → Why
 whyIn (Taken part) = W.CutShort
-whyIn (Refused stop) = stop .why
+whyIn (Refused stop) = stop .refusal .why
 whyIn Waits = W.CutShort
 whyIn Full = W.CutShort
 whyIn Done = W.CutShort
 
 abbrev numberIn : Answer → ℕ
 numberIn (accepts part) = 1
-numberIn (refuses number place n) = number
+numberIn (refuses number inside place n) = number
 numberIn waits = 1
 numberIn full = 1
 numberIn done = 1
 
 abbrev listedBy : Answer → Why → Listed
 listedBy (accepts part) why = Taken part
-listedBy (refuses number place n) why = Refused (record { why = why; place = place; written = n })
+listedBy (refuses number inside place n) why = Refused (record { refusal = record { why = why; place = inside }; place = place; written = n })
 listedBy waits why = Waits
 listedBy full why = Full
 listedBy done why = Done

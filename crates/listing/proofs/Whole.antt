@@ -32,8 +32,9 @@ data Told (l : Listing) (s : List ℕ) (ended : Bool) : Answer → List ℕ → 
   taken-by : {part : Part} {lines : List ℕ} (step : Step) → (ended && over (l .day) s) ≡ false → offerOf (l .day) s longestResult ≡ is step
       → part .used ≡ step .used → part .listing ≡ following l step → lines ≡ acceptedLines (roleOf (byteAt s 0)) (step .day) (writtenOf s)
       → Told l s ended (accepts part) lines
-  refused-by : {m p n : ℕ} {lines : List ℕ} (number inside : ℕ) → (ended && over (l .day) s) ≡ false → offerOf (l .day) s longestResult ≡ refused number inside
-      → (not ended && eqb number 1) ≡ false → lines ≡ refusedLine number (further (l .place) inside) → Told l s ended (refuses m p n) lines
+  refused-by : {number inside place n : ℕ} {lines : List ℕ} → (ended && over (l .day) s) ≡ false → offerOf (l .day) s longestResult ≡ refused number inside
+      → place ≡ further (l .place) inside → (not ended && eqb number 1) ≡ false → lines ≡ refusedLine number (further (l .place) inside)
+      → Told l s ended (refuses number inside place n) lines
 
 both : (a b : Bool) → (a && b) ≡ true → (a ≡ true) × (b ≡ true)
 both true b e = (refl, e)
@@ -48,7 +49,7 @@ told l s ended room {answer} {lines} = go (ltb room longestLines) (ended && over
     refuse : (number inside : ℕ) (w : Bool) → (not ended && eqb number 1) ≡ w → (ended && over (l .day) s) ≡ false → offerOf (l .day) s longestResult ≡ refused number inside
         → pick w (outcome waits []) (listRefused (l .place) number inside) ≡ outcome answer lines → Told l s ended answer lines
     refuse number inside true p q r e = rw (← ap (λ (o : Outcome). o .answer) e) more-wanted
-    refuse number inside false p q r e = rw (← ap (λ (o : Outcome). o .answer) e) (refused-by number inside q r p (sym (ap (λ (o : Outcome). o .lines) e)))
+    refuse number inside false p q r e = rw (← ap (λ (o : Outcome). o .answer) e) (refused-by q r refl p (sym (ap (λ (o : Outcome). o .lines) e)))
 
     accept : (step : Step) (w : Bool) → (not ended && false) ≡ w → (ended && over (l .day) s) ≡ false → offerOf (l .day) s longestResult ≡ is step
         → pick w (outcome waits []) (listReply (l .place) s (is step)) ≡ outcome answer lines → Told l s ended answer lines
@@ -106,10 +107,10 @@ listed {l} {input} (went {lines = lines} {rest = rest} {part = part} s more ende
         rw (u, v, i) at (f (omega arith) (omega (arith, ap length i, length-append s more))) in
         rw (i, left, unread .0, unread .1, first, x, y)
 listed (stopped s more ended room i h e) zero k = absurd (omega arith)
-listed {l} {input} (stopped {lines = lines} {number = m} {place = p} {n = w} s more ended room i h e) (suc n) k = go (told l s ended room e)
+listed {l} {input} (stopped {lines = lines} {number = m} {inside = j} {place = p} {n = w} s more ended room i h e) (suc n) k = go (told l s ended room e)
   where
-    go : Told l s ended (refuses m p w) lines → lines ≡ linesFrom (suc n) l input
-    go (refused-by number place c o w x) =
+    go : Told l s ended (refuses m j p w) lines → lines ≡ linesFrom (suc n) l input
+    go (refused-by c o t w x) =
         let q : mustWait (offerOf (l .day) s longestResult) ended ≡ false = rw o w in
         rw (i, not-over (l .day) s more ended c q h, same-offer (l .day) s more ended q h, o) x
 listed (finished s more ended room i h e) zero k = absurd (omega arith)
@@ -138,7 +139,7 @@ run (suc n) l input k =
         went input [] true longestLines (sym (append-nil input)) (λ _. refl) e (f step o)
     go false (refused number place) c o f =
         let lines = refusedLine number (further (l .place) place) in
-        let e : listOf l input true longestLines ≡ outcome (refuses number (further (l .place) place) (length lines)) lines = rw (c, o) in
+        let e : listOf l input true longestLines ≡ outcome (refuses number place (further (l .place) place) (length lines)) lines = rw (c, o) in
         stopped input [] true longestLines (sym (append-nil input)) (λ _. refl) e
 
 -- However the input comes, the lines of all steps are the list of the input.
@@ -162,6 +163,20 @@ done-silent l s ended room e =
   where
     go : {lines : List ℕ} → Told l s ended done lines → lines ≡ []
     go (over-by t c x) = x
+
+-- one that refuses tells the day's own refusal of the bytes at hand, and its place in the input
+pub record Refuses (l : Listing) (s : List ℕ) (number inside place : ℕ) : Type 0 where
+  pub replied : offerOf (l .day) s longestResult ≡ refused number inside
+  pub there : place ≡ further (l .place) inside
+
+pub step-refuses : (l : Listing) (s : List ℕ) (ended : Bool) (room : ℕ) {number inside place n : ℕ} → listOf l s ended room .answer ≡ refuses number inside place n
+    → Refuses l s number inside place
+step-refuses l s ended room {number} {inside} {place} {n} e =
+    let o = listOf l s ended room in
+    go (told l s ended room (ap (λ (a : Answer). outcome a (o .lines)) e))
+  where
+    go : {lines : List ℕ} → Told l s ended (refuses number inside place n) lines → Refuses l s number inside place
+    go (refused-by c o t w x) = record { replied = o; there = t }
 
 -- one that waits has less at hand than the longest block, of an input that has not ended
 pub record Short (s : List ℕ) (ended : Bool) : Type 0 where

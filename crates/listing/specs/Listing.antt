@@ -26,17 +26,17 @@ use Rattle.listing.specs.Lines.{dayLine, endLine, refusedLine, resultLin
 abbrev pub further : ℕ → ℕ → ℕ
 further place n = (place + n) % 2 ^ 64
 
--- what a step answers: what was accepted, what was refused by its number, its place in the input and the length of its line, or that it waits, lacks room or is done
+-- what a step answers: what was accepted, what was refused by its number, its place in what was offered, its place in the input and the length of its line, or that it waits, lacks room or is done
 pub data Answer : Type 0 where
   accepts : Part → Answer
-  refuses : ℕ → ℕ → ℕ → Answer
+  refuses : ℕ → ℕ → ℕ → ℕ → Answer
   waits : Answer
   full : Answer
   done : Answer
 
 abbrev pub answerOf : Listed → Answer
 answerOf (Taken part) = accepts part
-answerOf (Refused stop) = refuses (numberOf (stop .why)) (stop .place) (stop .written)
+answerOf (Refused stop) = refuses (numberOf (stop .refusal .why)) (stop .refusal .place) (stop .place) (stop .written)
 answerOf Waits = waits
 answerOf Full = full
 answerOf Done = done
@@ -64,7 +64,7 @@ listTaken place step role result =
 unfoldable pub listRefused : ℕ → ℕ → ℕ → Outcome
 listRefused place number inside =
     let lines = refusedLine number (further place inside) in
-    outcome (refuses number (further place inside) (length lines)) lines
+    outcome (refuses number inside (further place inside) (length lines)) lines
 
 unfoldable pub listReply : ℕ → List ℕ → Reply Step → Outcome
 listReply place s (is step) = listTaken place step (roleOf (byteAt s 0)) (writtenOf s)

@@ -40,7 +40,7 @@ dayList input = linesFrom (length input + 1) (record { day = fresh; place = 0 })
 pub data Steps : Listing → List ℕ → List ℕ → Type 0 where
   went : {l : Listing} {input lines rest : List ℕ} {part : Part} (s more : List ℕ) (ended : Bool) (room : ℕ) → input ≡ s ++ more → (ended ≡ true → more ≡ [])
       → listOf l s ended room ≡ outcome (accepts part) lines → Steps (part .listing) (drop (part .used) input) rest → Steps l input (lines ++ rest)
-  stopped : {l : Listing} {input lines : List ℕ} {number place n : ℕ} (s more : List ℕ) (ended : Bool) (room : ℕ) → input ≡ s ++ more → (ended ≡ true → more ≡ [])
-      → listOf l s ended room ≡ outcome (refuses number place n) lines → Steps l input lines
+  stopped : {l : Listing} {input lines : List ℕ} {number inside place n : ℕ} (s more : List ℕ) (ended : Bool) (room : ℕ) → input ≡ s ++ more → (ended ≡ true → more ≡ [])
+      → listOf l s ended room ≡ outcome (refuses number inside place n) lines → Steps l input lines
   finished : {l : Listing} {input lines : List ℕ} (s more : List ℕ) (ended : Bool) (room : ℕ) → input ≡ s ++ more → (ended ≡ true → more ≡ [])
       → listOf l s ended room ≡ outcome done lines → Steps l input lines

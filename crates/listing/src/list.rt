@@ -53,9 +53,9 @@ pub struct Part {
     pub listing: Listing,
 }
 
-// What was refused: why, the place in the input, and how many bytes its line has.
+// What was refused: the refusal, whose place counts from what was offered, its place in the input, and how many bytes its line has.
 pub struct Stop {
-    pub why: Why,
+    pub refusal: Refusal,
     pub place: u64,
     pub written: usize,
 }
@@ -135,7 +135,7 @@ fn lay_stop(place: u64, r: Refusal, room: &mut [u8]) -> Stop
     let at = wrapping_add_u64(place, r.place as u64);
     let written = lay_refused_line(room, 0, why.number(), at);
     Stop {
-        why,
+        refusal: r,
         place: at,
         written,
     }

@@ -19,12 +19,12 @@ write-all-requires c κs = search needs
 array-share-prefix-line : tie.Need-array-share-prefix-line
 array-share-prefix-line c =
     let line = c .before .before .before in
-    said-inside (line .plant-line .ensures) (line .plant-line .kept .1 .1 .0)
+    said-inside (line .plant-line .ensures) (line .plant-line .kept .1 .1 .1 .0)
 
 slice-aggregate-write-all-2 : tie.Need-slice-aggregate-write-all-2
 slice-aggregate-write-all-2 c =
     let line = c .before .before .before .before in
-    said-whole (line .plant-line .ensures) (line .plant-line .kept .1 .1 .0)
+    said-whole (line .plant-line .ensures) (line .plant-line .kept .1 .1 .1 .0)
 
 write-all-requires-2 : tie.Need-write-all-requires-2
 write-all-requires-2 c κs = search needs
