@@ -1,0 +1,2 @@
+-- Laws of what is shown.
+pub mod Few
