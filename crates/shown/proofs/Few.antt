@@ -23,7 +23,7 @@ few-valid d v =
 pub few-date : (n : ℕ) → n < 2921940 → Few (dateOf n)
 few-date n h = few-valid (dateOf n) (date-valid n h)
 
-few-moment : (n : ℕ) → n ≤ lastMinute → FewMoment (momentOf n)
+pub few-moment : (n : ℕ) → n ≤ lastMinute → FewMoment (momentOf n)
 few-moment n h =
     let v = moment-valid n h in
     record {

@@ -1,2 +1,6 @@
 -- Laws of what is shown.
 pub mod Few
+pub mod Figures
+pub mod Dates
+pub mod Places
+pub mod Shown

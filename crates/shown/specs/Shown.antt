@@ -1,5 +1,5 @@
 -- `daylist --dates`: the DAY line with dates, `DAY 2026-01-14 96 2026-01-13T14:00Z`, and any other line as it is. A line is its bytes without the line feed.
-use Prim.Native.Nat.{ℕ, _+_, _/_, _%_}
+use Prim.Native.Nat.{ℕ, _+_, _/_, _%_, _≤_}
 use mathlib.Core.Path.{_≡_}
 use mathlib.Core.List.{List, [], _∷_, _++_}
 use lib.Dec.{ltb}
@@ -11,7 +11,8 @@ use Rattle.calendar.specs.declared.moment.Moment.{Moment}
 use Rattle.calendar.specs.declared.moment.Shown.{Shown}
 use Rattle.calendar.specs.declared.moment.Shown.the-variants.{At, Later}
 use Rattle.calendar.specs.Calendar.{dateOf, shownOf}
-use Rattle.listing.specs.Lines.{digit, decimal, spaced, u32Field}
+use Rattle.listing.specs.Lines.{digit, decimal, spaced, line, dayLine, u32Field}
+use Rattle.records.specs.declared.day.DayRecord.{DayRecord}
 use Rattle.text.specs.declared.line.DayLine.{DayLine}
 use Rattle.text.specs.declared.line.DayLine.the-variants.{Is, No}
 use Rattle.text.specs.Line.{dayWord, listedOf}
@@ -70,3 +71,16 @@ shownIn s room = pick (ltb (length room) (roomBy (listedOf s) s)) [] (shownLine 
 pub record Fronts (bytes entry : List ℕ) (n : ℕ) (exit : List ℕ) : Type 0 where
   pub written : n ≡ length bytes
   pub room : exit ≡ laidAt entry 0 bytes
+
+-- ---- the list's own line
+-- a day record whose values the bits of its fields hold
+pub record HeldDay (d : DayRecord) : Type 0 where
+  pub day : d .day ≤ 65535
+  pub quarters : d .quarters ≤ 255
+  pub run : d .run ≤ 4294967295
+
+-- the list's DAY line of a day record, its line feed taken off and put back, is shown with the record's date and minute
+pub record DayShown (d : DayRecord) : Type 0 where
+  pub bare : List ℕ
+  pub listed : dayLine d ≡ bare ++ (10 ∷ [])
+  pub shown : shownLine bare ++ (10 ∷ []) ≡ line dayWord (dayShown (d .day) ∷ decimal (d .quarters) ∷ minuteShown (d .run) ∷ [])
