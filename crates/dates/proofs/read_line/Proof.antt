@@ -1,82 +1,68 @@
+-- The place stays within the line.
+use Prim.Native.Nat.{_-_, _≤_}
+use mathlib.Core.Path.{_≡_, refl}
+use native.Mathlib.Omega.{arith}
+use lib.ListN.{length}
+use borrow.Author.Needs.{needs}
 use Rattle.dates.proofs.read_line.Statement.{statement}
 use Rattle.dates.proofs.read_line.Tie as tie
-use Rattle.dates.proofs.read_line.Reads as reads
-use Rattle.dates.proofs.read_line.Lts as lts
-use Rattle.libc.proofs.read.Reads as read-reads
 
 abbrev Inv-loop : tie.InvT-loop
-Inv-loop line₀ length₀ line length = ?
+Inv-loop line₀ count₀ line count = (count ≤ length line₀) × (length line ≡ length line₀)
 
 abbrev μ-loop : tie.MeasureT-loop
-μ-loop line₀ length₀ line length = ?
+μ-loop line₀ count₀ line count = length line₀ - count
 
--- src/main.rt:19:5
 loop-holds : tie.Need-loop-holds Inv-loop μ-loop
-loop-holds c = ?
+loop-holds c = (omega arith, refl)
 
--- src/main.rt:20:62
 add-read : tie.Need-add-read Inv-loop μ-loop
-add-read c = ?
+add-read c = search needs
 
--- src/main.rt:20:44
 sub-read : tie.Need-sub-read Inv-loop μ-loop
-sub-read c = ?
+sub-read c = search needs
 
--- src/main.rt:20:44
 part-read-start : tie.Need-part-read-start Inv-loop μ-loop
-part-read-start c = ?
+part-read-start c = search needs
 
--- src/main.rt:20:44
 part-read-end : tie.Need-part-read-end Inv-loop μ-loop
-part-read-end c = ?
+part-read-end c = search needs
 
--- src/main.rt:20:13
 read-requires : tie.Need-read-requires Inv-loop μ-loop
-read-requires c κs = ?
+read-requires c κs = search needs
 
--- src/main.rt:22:13
 same-length : tie.Need-same-length Inv-loop μ-loop
-same-length c = ?
+same-length c = search needs
 
--- src/main.rt:22:13
 returns : tie.Need-returns Inv-loop μ-loop
-returns c = ?
+returns c = search needs
 
--- src/main.rt:24:12
 slice-read-if2 : tie.Need-slice-read-if2 Inv-loop μ-loop
-slice-read-if2 c = ?
+slice-read-if2 c = search needs
 
--- src/main.rt:25:20
 add-result : tie.Need-add-result Inv-loop μ-loop
-add-result c = ?
+add-result c = search needs
 
--- src/main.rt:25:13
 same-length-2 : tie.Need-same-length-2 Inv-loop μ-loop
-same-length-2 c = ?
+same-length-2 c = search needs
 
--- src/main.rt:25:13
 returns-2 : tie.Need-returns-2 Inv-loop μ-loop
-returns-2 c = ?
+returns-2 c = search needs
 
--- src/main.rt:27:9
 add-length : tie.Need-add-length Inv-loop μ-loop
-add-length c = ?
+add-length c = search needs
 
--- src/main.rt:19:5
 loop-less : tie.Need-loop-less Inv-loop μ-loop
-loop-less c = ?
+loop-less c = search needs
 
--- src/main.rt:19:5
 loop-again : tie.Need-loop-again Inv-loop μ-loop
-loop-again c = ?
+loop-again c = search needs
 
--- src/main.rt:17:1
 same-length-3 : tie.Need-same-length-3 Inv-loop μ-loop
-same-length-3 c = ?
+same-length-3 c = search needs
 
--- src/main.rt:17:1
 returns-3 : tie.Need-returns-3 Inv-loop μ-loop
-returns-3 c = ?
+returns-3 c = search needs
 
 pub read-line-spec : {M : Type 1} → statement M
 read-line-spec =
