@@ -1,5 +1,5 @@
 -- The word that is shown for a day or a minute is read as that day or minute, by mkday's own reading.
-use Prim.Native.Nat.{ℕ, _+_, _*_, _-_, _/_, _%_, _≤_, _<_}
+use Prim.Native.Nat.{ℕ, _+_, _/_, _%_, _≤_, _<_}
 use mathlib.Core.Path.{_≡_, refl}
 use mathlib.Core.Bool.{Bool, true, false}
 use mathlib.Core.List.{List, [], _∷_, _++_, append-nil}
@@ -13,15 +13,15 @@ use Rattle.calendar.specs.declared.moment.Moment.{Moment}
 use Rattle.calendar.specs.declared.moment.Shown.the-variants.{At, Later}
 use Rattle.calendar.specs.Calendar.{dateOf, momentOf, shownOf, lastMinute}
 use Rattle.calendar.proofs.Trips.{day-date, minute-moment}
-use Rattle.listing.specs.Lines.{digit, decimal}
+use Rattle.listing.specs.Lines.{digit}
 use Rattle.listing.proofs.Digits.{some-digit}
-use Rattle.text.specs.declared.numbers_in.Size.the-variants.{Is, No}
+use Rattle.text.specs.declared.numbers_in.Size.the-variants.{Is}
 use Rattle.text.specs.Numbers.{allDigits, numberFrom, sizeOf, fieldOf}
 use Rattle.text.specs.Dates.{hasDate, dateIn, hasTime, momentIn, dayIn, minuteIn}
 use Rattle.shown.specs.Inner.{Few, FewMoment}
-use Rattle.shown.specs.Shown.{twoDigits, dateWord, momentWord, dayShown, minuteShown, shownAs}
+use Rattle.shown.specs.Shown.{twoDigits, dateWord, momentWord, dayShown, minuteShown, shownAs, whole}
 use Rattle.shown.proofs.Few.{few-date, few-moment}
-use Rattle.shown.proofs.Figures.{whole, digit-is, size-is, minute-read, solid-more, solid-decimal}
+use Rattle.shown.proofs.Figures.{digit-is, size-is, minute-read, solid-more, solid-decimal}
 
 two-size : (n : ℕ) → n < 100 → sizeOf (twoDigits n) ≡ Is n
 unfolding allDigits numberFrom

@@ -11,14 +11,10 @@ use lib.ListN.{length}
 use Rattle.numbers.proofs.Choices.{and-both}
 use Rattle.listing.specs.Lines.{digit, digits, decimal}
 use Rattle.listing.proofs.Digits.{last-digit, more-digits, tenth-below, some-digit, no-more}
-use Rattle.text.specs.declared.numbers_in.Size.the-variants.{Is, No}
-use Rattle.text.specs.declared.numbers_in.Whole.{Whole}
-use Rattle.text.specs.Numbers.{isDigit, allDigits, numberFrom, sizeFrom, sizeOf, isBlank, fieldOf, minus, numberIn}
+use Rattle.text.specs.declared.numbers_in.Size.the-variants.{Is}
+use Rattle.text.specs.Numbers.{isDigit, allDigits, numberFrom, sizeFrom, sizeOf, fieldOf, minus, numberIn}
 use Rattle.text.specs.Dates.{dayIn, minuteIn}
-
--- a whole number that is read
-abbrev pub whole : ℕ → Whole
-whole n = record { negative = false; size = n; good = true }
+use Rattle.shown.specs.Shown.{whole}
 
 pub digit-is : (x : ℕ) → x < 10 → isDigit (digit x) ≡ true
 digit-is x h = rw (le-leb 48 (48 + x) (omega arith), le-leb (48 + x) 57 (omega arith))

@@ -1,6 +1,6 @@
 -- Where the words of a line stand: each is a field of the text, with its value.
-use Prim.Native.Nat.{ℕ, suc, _+_, _≤_, _<_}
-use mathlib.Core.Path.{_≡_, refl, sym, ap, _∙_}
+use Prim.Native.Nat.{ℕ, _+_, _≤_, _<_}
+use mathlib.Core.Path.{_≡_, refl, sym}
 use mathlib.Core.Bool.{Bool, true, false}
 use mathlib.Core.List.{List, [], _∷_, _++_, append-assoc}
 use native.Mathlib.Omega.{arith}
@@ -13,7 +13,7 @@ use Rattle.text.specs.declared.values_in.Form.{Form}
 use Rattle.text.specs.Numbers.{isBlank, blanks, fieldOf}
 use Rattle.text.specs.Dates.{valueIn, valueAt}
 use Rattle.text.specs.Fields.{fieldAt, unsignedAt}
-use Rattle.shown.proofs.Figures.{whole}
+use Rattle.shown.specs.Shown.{whole}
 
 -- a field of one byte or more, with no blank in it
 pub record Word (w : List ℕ) : Type 0 where

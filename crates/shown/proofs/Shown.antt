@@ -5,20 +5,20 @@ use mathlib.Core.Bool.{true}
 use mathlib.Core.List.{List, [], _∷_, _++_, append-assoc, append-nil}
 use native.Mathlib.Omega.{arith}
 use borrow.Author.Tests.{eq-eqb}
-use lib.ListN.{length, drop, length-append}
+use lib.ListN.{length, length-append}
 use lib.Seq.{drop-length}
 use Rattle.records.specs.declared.day.DayRecord.{DayRecord}
 use Rattle.listing.specs.Lines.{decimal, spaced, line, dayLine}
 use Rattle.listing.proofs.Digits.{some-digit}
 use Rattle.text.specs.declared.fields.Field.{Field}
-use Rattle.text.specs.declared.line.DayLine.the-variants.{Is, No}
+use Rattle.text.specs.declared.line.DayLine.the-variants.{Is}
 use Rattle.text.specs.declared.values_in.Form.the-variants as F
 use Rattle.text.specs.Numbers.{blanks, fieldOf, numberIn}
 use Rattle.text.specs.Dates.{dayIn, minuteIn}
 use Rattle.text.specs.Fields.{fieldAt, overAt, dayAt, u8At, minuteAt}
 use Rattle.text.specs.Line.{same, dayWord, listedFields, listedOf}
-use Rattle.shown.specs.Shown.{dayShown, minuteShown, datedLine, shownLine, HeldDay, DayShown}
-use Rattle.shown.proofs.Figures.{whole, number-read, minute-read, day-read, solid-decimal}
+use Rattle.shown.specs.Shown.{dayShown, minuteShown, datedLine, shownLine, whole, HeldDay, DayShown}
+use Rattle.shown.proofs.Figures.{number-read, minute-read, day-read, solid-decimal}
 use Rattle.shown.proofs.Dates.{day-back, minute-back, solid-day, long-day, solid-minute, long-minute}
 use Rattle.shown.proofs.Places.{Word, stops, place, reads}
 

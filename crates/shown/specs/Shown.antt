@@ -1,6 +1,7 @@
 -- `daylist --dates`: the DAY line with dates, `DAY 2026-01-14 96 2026-01-13T14:00Z`, and any other line as it is. A line is its bytes without the line feed.
 use Prim.Native.Nat.{ℕ, _+_, _/_, _%_, _≤_}
 use mathlib.Core.Path.{_≡_}
+use mathlib.Core.Bool.{true, false}
 use mathlib.Core.List.{List, [], _∷_, _++_}
 use lib.Dec.{ltb}
 use lib.ListN.{length}
@@ -13,6 +14,7 @@ use Rattle.calendar.specs.declared.moment.Shown.the-variants.{At, Later}
 use Rattle.calendar.specs.Calendar.{dateOf, shownOf}
 use Rattle.listing.specs.Lines.{digit, decimal, spaced, line, dayLine, u32Field}
 use Rattle.records.specs.declared.day.DayRecord.{DayRecord}
+use Rattle.text.specs.declared.numbers_in.Whole.{Whole}
 use Rattle.text.specs.declared.line.DayLine.{DayLine}
 use Rattle.text.specs.declared.line.DayLine.the-variants.{Is, No}
 use Rattle.text.specs.Line.{dayWord, listedOf}
@@ -40,6 +42,10 @@ shownAs n Later = decimal n
 
 unfoldable pub minuteShown : ℕ → List ℕ
 minuteShown n = shownAs n (shownOf n)
+
+-- what a word reads as that stands for a number
+abbrev pub whole : ℕ → Whole
+whole n = record { negative = false; size = n; good = true }
 
 -- ---- the line
 -- DAY day quarters run

@@ -1,12 +1,9 @@
 -- The word is the first field, and tells whether the others are read.
-use mathlib.Core.Path.{sym, _∙_, ap}
-use mathlib.Core.Bool.{Bool}
-use mathlib.Core.List.{List}
-use Prim.Native.Nat.{ℕ}
+use mathlib.Core.Path.{sym, _∙_}
 use native.Mathlib.Omega.{arith}
 use borrow.Author.Tests.{not-true, not-false}
 use denote.Ref.{now}
-use Rattle.text.specs.Line.{same, dayWord, listedOf}
+use Rattle.text.specs.Line.{listedOf}
 use Rattle.text.proofs.Spaces.{stands, field-at}
 use borrow.Author.Needs.{needs}
 use Rattle.text.proofs.line.day_line_in.Statement.{statement}
