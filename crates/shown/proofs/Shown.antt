@@ -7,7 +7,10 @@ use native.Mathlib.Omega.{arith}
 use borrow.Author.Tests.{eq-eqb}
 use lib.ListN.{length, length-append}
 use lib.Seq.{drop-length}
+use Rattle.numbers.specs.Bytes.{Bytes}
+use Rattle.numbers.proofs.Trips.{below16, below32}
 use Rattle.records.specs.declared.day.DayRecord.{DayRecord}
+use Rattle.records.specs.Layouts as L
 use Rattle.listing.specs.Lines.{decimal, spaced, line, dayLine}
 use Rattle.listing.proofs.Digits.{some-digit}
 use Rattle.text.specs.declared.fields.Field.{Field}
@@ -116,3 +119,9 @@ day-shown d h =
       listed = refl;
       shown = rw (plain-read (d .day) (d .quarters) (d .run) (h .day) (h .quarters) (h .run));
     }
+
+-- every day record that is read from bytes is one of these
+pub read-held : (s : List ℕ) → Bytes s → (at : ℕ) → HeldDay (L.dayAt s at)
+unfolding L.dayAt
+read-held s b at =
+    record { day = omega (arith, below16 s b (at + 1)); quarters = omega (arith, b (at + 3)); run = omega (arith, below32 s b (at + 4)) }
