@@ -23,6 +23,8 @@ docdir = $(datadir)/doc/flehwella
 
 VERSION := $(shell cat VERSION)
 PROGRAMS = daylist mkday
+# What a command runs beside its own program, and has no command itself.
+PARTS = dates
 INSTALL = install
 LIBRARY = target/libflehwella.a
 SHARED = libflehwella.so
@@ -36,13 +38,13 @@ programs_here = install-programs
 endif
 
 all:
-	@tools/built $(PROGRAMS) library
+	@tools/built $(PROGRAMS) $(PARTS) library
 
 lib:
 	@tools/built library
 
 programs:
-	@tools/built $(PROGRAMS)
+	@tools/built $(PROGRAMS) $(PARTS)
 
 install: install-library install-docs $(programs_here)
 
@@ -65,11 +67,13 @@ install-programs: programs
 	$(INSTALL) -d "$(DESTDIR)$(bindir)" "$(DESTDIR)$(libexecdir)/flehwella" "$(DESTDIR)$(mandir)/man1" "$(DESTDIR)$(datadir)/flehwella"
 	$(INSTALL) -m 644 docs/refusals.txt "$(DESTDIR)$(datadir)/flehwella/"
 	sed -e 's|^version=.*|version=$(VERSION)|' -e 's|^refusals=.*|refusals=$(data_there)/refusals.txt"|' -e 's|^build() .*|build() { :; }|' \
-		-e 's|^program() .*|program() { exec "$$here/$(call way,$(bindir),$(libexecdir))/flehwella/$$name"; }|' \
+		-e 's|^program() .*|program() { exec "$$here/$(call way,$(bindir),$(libexecdir))/flehwella/$$1"; }|' \
 		tools/command.sh >"$(DESTDIR)$(datadir)/flehwella/command.sh"
 	chmod 644 "$(DESTDIR)$(datadir)/flehwella/command.sh"
+	for name in $(PROGRAMS) $(PARTS); do \
+		$(INSTALL) -m 755 target/bin/$$name "$(DESTDIR)$(libexecdir)/flehwella/" || exit; \
+	done
 	for name in $(PROGRAMS); do \
-		$(INSTALL) -m 755 target/bin/$$name "$(DESTDIR)$(libexecdir)/flehwella/" && \
 		sed -e 's|^\. .*|. $(data_there)/command.sh"|' $$name >"$(DESTDIR)$(bindir)/$$name" && \
 		chmod 755 "$(DESTDIR)$(bindir)/$$name" && \
 		$(INSTALL) -m 644 man/$$name.1 "$(DESTDIR)$(mandir)/man1/" || exit; \
@@ -87,7 +91,10 @@ uninstall:
 		"$(DESTDIR)$(libdir)/$(SHARED)" "$(DESTDIR)$(libdir)/$(SONAME)" "$(DESTDIR)$(libdir)/$(SHARED).$(VERSION)" \
 		"$(DESTDIR)$(mandir)/man3/flehwella_check.3"
 	for name in $(PROGRAMS); do \
-		rm -f "$(DESTDIR)$(bindir)/$$name" "$(DESTDIR)$(libexecdir)/flehwella/$$name" "$(DESTDIR)$(mandir)/man1/$$name.1"; \
+		rm -f "$(DESTDIR)$(bindir)/$$name" "$(DESTDIR)$(mandir)/man1/$$name.1"; \
+	done
+	for name in $(PROGRAMS) $(PARTS); do \
+		rm -f "$(DESTDIR)$(libexecdir)/flehwella/$$name"; \
 	done
 	rm -f "$(DESTDIR)$(datadir)/flehwella/command.sh" "$(DESTDIR)$(datadir)/flehwella/refusals.txt"
 	rm -rf "$(DESTDIR)$(docdir)"

@@ -1,11 +1,11 @@
 # Sourced by the commands daylist and mkday, which have set `name`, `here`, `usage`, what they `make` and in whose words of the page they
-# tell refusals (`way`), and made `help` and, where they let choose among lines (`known`), `filtered`: what their words ask for, where
-# the input comes from, a run of the program, and the exit status. The four lines that say where things lie are others where it is
+# tell refusals (`way`), and made `help` and, where they let choose how lines come out (`known`), `filtered`: what their words ask for,
+# where the input comes from, a run of the program, and the exit status. The four lines that say where things lie are others where it is
 # installed.
 version=$(cat "$here/VERSION")
 refusals=$here/docs/refusals.txt
-build() { "$here/tools/built" "$name"; }
-program() { exec "$here/tools/run" "$name"; }
+build() { "$here/tools/built" "$1"; }
+program() { exec "$here/tools/run" "$1"; }
 
 fail() {
     printf '%s: %s\n' "$name" "$*" >&2
@@ -20,9 +20,9 @@ tell() {
     exit 0
 }
 
-# Looks at the command's words; `file` and whether it was `given`, and which of the `known` choices was `chosen`, is what is left of them.
+# Looks at the command's words; `file` and whether it was `given`, and which of the `known` choices are `chosen`, is what is left of them.
 read_words() {
-    given='' file=- over='' chosen=
+    given='' file=- over='' chosen=''
     for word; do
         case $over$word in
         --help | -h)
@@ -33,7 +33,7 @@ read_words() {
         --) over=yes ;;
         -?*)
             case " ${known-} " in
-            *" $word "*) chosen=$word ;;
+            *" $word "*) chosen="$chosen $word " ;;
             *) misused "$word is not known" ;;
             esac
             ;;
@@ -44,6 +44,9 @@ read_words() {
         esac
     done
 }
+
+# chose CHOICE: whether it is chosen.
+chose() { case $chosen in *" $1 "*) ;; *) return 1 ;; esac; }
 
 # Standard input is the file from here on; a file is opened once, since it may be a pipe.
 open_input() {
@@ -94,29 +97,30 @@ run() {
     if [ "$chosen" ]; then
         run_filtered
     else
-        program <&3 2>&4 3<&- 4>&- 5<&- &
+        program "$name" <&3 2>&4 3<&- 4>&- 5<&- &
         ended=0
         wait $! 2>/dev/null || ended=$?
     fi
     trap - HUP INT TERM
     told=$(cat <&5)
-    if [ -z "$told" ] && [ "${lost-}" ]; then told="$name: standard output cannot be written"; fi
+    if [ "${lost-}" ]; then told="$name: standard output cannot be written"; fi
 }
 
-# The same with only the lines that were `chosen`: the program comes last, so that a signal ends it, and what reads its lines ends with it.
+# The same with its lines as was `chosen`: the program comes last, so that a signal ends it, and what reads its lines ends with it. Lines
+# that are lost come before whatever the program told, as where it writes them itself.
 run_filtered() {
     between=$(mktemp -d) || fail 'no temporary folder can be made'
     trap 'rm -rf "$between"' EXIT
     mkfifo "$between/lines" || exit 2
     filtered <"$between/lines" 2>/dev/null 3<&- 4>&- 5<&- &
     filter=$! ended=0 kept=0 lost=
-    program <&3 2>&4 >"$between/lines" 3<&- 4>&- 5<&- &
+    program "$name" <&3 2>&4 >"$between/lines" 3<&- 4>&- 5<&- &
     wait $! 2>/dev/null || ended=$?
     wait $filter 2>/dev/null || kept=$?
     case $kept in
     0) ;;
-    141) ended=141 ;;
-    *) lost=yes ended=0 ;;
+    1 | 2) lost=yes ended=0 ;;
+    *) ended=$kept ;;
     esac
 }
 

@@ -8,6 +8,8 @@ use Rattle.numbers.specs.Choice.{pick}
 use Rattle.records.specs.Layouts.{dayKind, dayWith, groupWith, unitWith, groupKind, unitKind, endKind}
 use Rattle.text.specs.declared.line.Line.{Line}
 use Rattle.text.specs.declared.line.Line.the-variants.{Day, Group, Unit, End, Passed, TooLong, Not}
+use Rattle.text.specs.declared.line.DayLine.{DayLine}
+use Rattle.text.specs.declared.line.DayLine.the-variants.{Is, No}
 use Rattle.text.specs.declared.fields.Field.{Field}
 use Rattle.text.specs.Numbers.{isBlank, fieldOf}
 use Rattle.text.specs.Fields.{fieldAt, wrong, overAt, u8At, u16At, u32At, i32At, dayAt, minuteAt}
@@ -126,3 +128,14 @@ markLength line number = pick (eqb number 1 && same (take 3 line) byteOrderMark)
 -- a line by its number, which is 1 at the front of the text
 unfoldable pub lineOf : List ℕ → ℕ → Line
 lineOf line number = bareOf (uncommented true (drop (markLength line number) line))
+
+-- ---- the DAY line of the day list: its day, quarters and run minute, each as the text has it, and nothing after them
+unfoldable pub listedFields : List ℕ → Field → DayLine
+listedFields text word =
+    let day = dayAt text 1 word in
+    let quarters = u8At text 2 (day .field) in
+    let run = minuteAt text 3 (quarters .field) in
+    pick (overAt text 4 (run .field) .good) (Is (day .value) (quarters .value) (run .value)) No
+
+unfoldable pub listedOf : List ℕ → DayLine
+listedOf text = pick (same (fieldOf (drop (fieldAt text 0 0 .start) text)) dayWord) (listedFields text (fieldAt text 0 0)) No

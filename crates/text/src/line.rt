@@ -4,7 +4,7 @@ ghost use mathlib.Core.Bool.{true, _&&_};
 ghost use Prim.Native.Nat.{_≤_};
 ghost use lib.Dec.{eqb};
 ghost use lib.ListN.{length};
-ghost use Rattle.text.specs.Line.{same, dayOf, groupOf, unitOf, endOf, fieldsOf, recordOf, uncommented, bareLength, bareOf, markLength, lineOf};
+ghost use Rattle.text.specs.Line.{same, dayOf, groupOf, unitOf, endOf, fieldsOf, recordOf, uncommented, bareLength, bareOf, markLength, lineOf, listedFields, listedOf};
 use crate::fields::Field;
 use crate::fields::day_at;
 use crate::fields::field_at;
@@ -43,6 +43,12 @@ pub enum Line {
     // Not in the form: above the most bytes; or a field is wrong after the word of a record of this kind, 0 where it is no record's.
     TooLong,
     Not(u8, Field),
+}
+
+// The DAY line of the day list: its day, quarters and run minute; or another line.
+pub enum DayLine {
+    Is(u16, u8, u32),
+    No,
 }
 
 fn is_same(a: &[u8], b: &[u8]) -> bool
@@ -258,4 +264,31 @@ pub fn line_in(line: &[u8], number: u64) -> Line
 {
     let from = mark_length(line, number);
     unmarked_in(&line[from..])
+}
+
+// The fields of the list's DAY line.
+fn listed_fields(text: &[u8], word: Field) -> DayLine
+    ensures { λ r. ⌜ r ≡ listedFields (now (text .entry)) word ⌝ }
+{
+    let day = day_at(text, 1, word);
+    let quarters = u8_at(text, 2, day.field);
+    let run = minute_at(text, 3, quarters.field);
+    let last = over_at(text, 4, run.field);
+    if !last.good {
+        return DayLine::No;
+    }
+    DayLine::Is(day.value, quarters.value, run.value)
+}
+
+// What the DAY line of the day list tells, by its bytes without the line feed that ends it.
+pub fn day_line_in(text: &[u8]) -> DayLine
+    ensures { λ r. ⌜ r ≡ listedOf (now (text .entry)) ⌝ }
+{
+    let word = field_at(text, 0, 0);
+    let start = word.start;
+    let end = word.end;
+    if !is_same(&text[start..end], b"DAY") {
+        return DayLine::No;
+    }
+    listed_fields(text, word)
 }

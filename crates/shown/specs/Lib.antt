@@ -1,0 +1,3 @@
+-- The day list's DAY line with dates.
+pub mod Shown
+pub mod Inner
