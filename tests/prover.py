@@ -198,10 +198,13 @@ class Bench:
         self.lay(crates)
         self.holds = crates
 
-    def check(self, crate, changes=()):
-        """The verdict on the crate with the changes made."""
+    def check(self, crate, changes=(), rest=None):
+        """The verdict on the crate with the changes made, without the rest where one is given (tests/parts.py)."""
         self.hold([crate])
-        self.change(crate, changes)
+        self.change(crate, [*changes, *filter(None, [rest])])
+        for path in rest.paths if rest else ():
+            (self.place / crate / path).unlink(missing_ok=True)
+            self.holds = []
         told = self.prover.check(crate, self.root(crate), self.modules())
         self.seeds.after(crate, self.modules() / self.prover.folder)
         return told
@@ -280,15 +283,16 @@ class Function:
         return any(place and int(place.group(1)) in self.lines for place in places)
 
 
-def told_together(bench, lot):
+def told_together(bench, lot, rest=None):
     """Of changes of different functions of a crate, made at once: those that their own functions' proofs refuse, each with the error.
+    The rest of the crate is left out where one is given.
 
     A function is proved from the contracts of those that it calls, so that an error of a fact in its proof comes from its own
     change. Of a change that is not told of, nothing is known: its error may be hidden by that of a function that it calls. Where
     the compiler rejects some, the others are made once more; where a fact no longer holds anywhere else, the lot tells of none.
     """
-    while len(lot) > 1:
-        verdict, said = bench.check(lot[0].crate, lot)
+    while lot:
+        verdict, said = bench.check(lot[0].crate, lot, rest)
         if verdict == REFUSED:
             facts = facts_of(said)
             own = {change: [fact for fact in facts if change.function.has(fact)] for change in lot}
