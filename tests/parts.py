@@ -11,7 +11,7 @@ import re
 
 import calls
 import mutate
-from prover import ROOT
+from prover import ROOT, is_program
 
 CALLED = re.compile(r"\b(\w+)\(")
 LAW = re.compile(r"/proofs/\w+\.antt:")
@@ -91,9 +91,15 @@ class Crate:
         constants = {f"const {name}" for name in calls.CONSTANT.findall(function.body)}
         return {function.name} | constants | known().cited(function, steps)
 
+    def methods_beside(self, names):
+        """The methods that rest on none of the functions: a type without one of its methods would be another module to all that use
+        the type, and these would be checked anew. Of a program, of which nothing is checked before, it is all one."""
+        methods = [name for name, one in self.functions.items() if one.path[-2:-1] and one.path[-2][0].isupper()]
+        return [] if is_program(self.crate) else [name for name in methods if not self.kept([name])[0] & set(names)]
+
     def without_rest(self, names):
         """What a copy of the crate loses where only these functions are checked: pieces of its files, and files of its proofs."""
-        functions, laws = self.kept(names)
+        functions, laws = self.kept([*names, *self.methods_beside(names)])
         gone = [one for name, one in self.functions.items() if name not in functions and not one.marked]
         pieces = [(one.file, *one.span, "") for one in gone]
         lost = {"::".join(one.path) for one in gone}

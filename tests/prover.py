@@ -3,7 +3,8 @@
 A change has a `crate`, its `pieces`, each a file of the crate as it stands, where a piece of it starts and ends and what
 comes in its place, and the `function` whose body alone it changes, or None. A check starts from the checked modules of
 the crate as it stands, so that the prover checks anew only what the changes touch; the first of a program starts from nothing,
-since rt keeps none of its modules. The crates must be proved.
+since rt keeps none of its modules. What the changed functions do not rest on can be left out (tests/parts.py). The crates must be
+proved.
 """
 
 import concurrent.futures
@@ -325,8 +326,8 @@ def lots_of(changes, most=LOT):
 
 class Work:
     """The lots still to try, by crate, each crate's from its last. A bench goes on with the crate that it holds and then takes one that
-    no other holds: programs first, since the first check of each is of the whole program, and then what has most lots. At last it
-    helps another."""
+    no other holds: programs first, since of each nothing is checked before, and then what has the largest lot, so that short ones are
+    left for the end. At last it helps another."""
 
     def __init__(self, lots, proofs):
         self.lock, self.held, self.left, self.proofs = threading.Lock(), {}, {}, proofs
@@ -341,7 +342,7 @@ class Work:
             left = self.proofs.wait_for(left)
             if self.held.get(number) not in left:
                 free = [crate for crate in left if crate not in self.held.values()]
-                self.held[number] = max(free or left, key=lambda crate: (is_program(crate), len(self.left[crate])))
+                self.held[number] = max(free or left, key=lambda crate: (is_program(crate), max(map(len, self.left[crate]))))
             return self.left[self.held[number]].pop()
 
 
