@@ -155,11 +155,11 @@ class Calls:
                     open_ += self.called(function)
         return seen.values()
 
-    def cited(self, function):
-        """The definitions that a function's contract names, and those that stand up to STEPS behind them."""
+    def cited(self, function, steps=STEPS):
+        """The definitions that a function's contract names, and those that stand up to so many steps behind them."""
         imports, aliases = definitions.imports_of(self.source(function))
         found = set(definitions.cited(function.clauses, None, imports, aliases, self.known))
-        for _ in range(STEPS):
+        for _ in range(steps):
             for where, name in list(found):
                 if where in self.known and name in self.known[where].definitions:
                     module, one = self.known[where], self.known[where].definitions[name]

@@ -95,9 +95,9 @@ def following(name, kinds):
 class Region:
     """A function's body, with the types of its parameters, or a constant's value, with none."""
 
-    def __init__(self, crate, path, text, name, start, end, kinds):
+    def __init__(self, crate, path, text, name, start, end, kinds, header):
         self.crate, self.path, self.text, self.name, self.kinds = crate, path, text, name, kinds
-        self.start, self.end = start, end
+        self.start, self.end, self.header = start, end, header
         self.function = None if kinds is None else prover.Function(self)
         self.tokens = tokens_of(text, start, end)
         self.partner = {}
@@ -299,7 +299,7 @@ def regions_of(crate, path, text):
         elif body and line == closing:
             m = re.search(r"\(([^)]*)\)", text[header:body])
             kinds = dict(tuple(w.strip() for w in p.split(":", 1)) for p in m.group(1).split(",") if ":" in p)
-            yield Region(crate, path, text, function, body, starts[k] + len(line), kinds)
+            yield Region(crate, path, text, function, body, starts[k] + len(line), kinds, header)
             function, body = None, None
         m = re.match(r"\s*(?:pub )?const (\w+): [^=]+ = ", line)
         if m and body is None:
@@ -307,7 +307,7 @@ def regions_of(crate, path, text):
             end = text.index(";\n", start)
             if line.rstrip().endswith("["):
                 end = text.index("\n];", start) + 2
-            yield Region(crate, path, text, kind + m.group(1), start, end, None)
+            yield Region(crate, path, text, kind + m.group(1), start, end, None, starts[k])
 
 
 def mutants_of(root, below, every=1):

@@ -3,7 +3,8 @@
 A change has a `crate`, its `pieces`, each a file of the crate as it stands, where a piece of it starts and ends and what
 comes in its place, and the `function` whose body alone it changes, or None. A check starts from the checked modules of
 the crate as it stands, so that the prover checks anew only what the changes touch; the first of a program starts from nothing,
-since rt keeps none of its modules. The crates must be proved.
+since rt keeps none of its modules. What the changed functions do not rest on can be left out (tests/parts.py). The crates must be
+proved.
 """
 
 import concurrent.futures
@@ -198,10 +199,13 @@ class Bench:
         self.lay(crates)
         self.holds = crates
 
-    def check(self, crate, changes=()):
-        """The verdict on the crate with the changes made."""
+    def check(self, crate, changes=(), rest=None):
+        """The verdict on the crate with the changes made, without the rest where one is given (tests/parts.py)."""
         self.hold([crate])
-        self.change(crate, changes)
+        self.change(crate, [*changes, *filter(None, [rest])])
+        for path in rest.paths if rest else ():
+            (self.place / crate / path).unlink(missing_ok=True)
+            self.holds = []
         told = self.prover.check(crate, self.root(crate), self.modules())
         self.seeds.after(crate, self.modules() / self.prover.folder)
         return told
@@ -280,15 +284,16 @@ class Function:
         return any(place and int(place.group(1)) in self.lines for place in places)
 
 
-def told_together(bench, lot):
+def told_together(bench, lot, rest=None):
     """Of changes of different functions of a crate, made at once: those that their own functions' proofs refuse, each with the error.
+    The rest of the crate is left out where one is given.
 
     A function is proved from the contracts of those that it calls, so that an error of a fact in its proof comes from its own
     change. Of a change that is not told of, nothing is known: its error may be hidden by that of a function that it calls. Where
     the compiler rejects some, the others are made once more; where a fact no longer holds anywhere else, the lot tells of none.
     """
-    while len(lot) > 1:
-        verdict, said = bench.check(lot[0].crate, lot)
+    while lot:
+        verdict, said = bench.check(lot[0].crate, lot, rest)
         if verdict == REFUSED:
             facts = facts_of(said)
             own = {change: [fact for fact in facts if change.function.has(fact)] for change in lot}
@@ -321,8 +326,8 @@ def lots_of(changes, most=LOT):
 
 class Work:
     """The lots still to try, by crate, each crate's from its last. A bench goes on with the crate that it holds and then takes one that
-    no other holds: programs first, since the first check of each is of the whole program, and then what has most lots. At last it
-    helps another."""
+    no other holds: programs first, since of each nothing is checked before, and then what has the largest lot, so that short ones are
+    left for the end. At last it helps another."""
 
     def __init__(self, lots, proofs):
         self.lock, self.held, self.left, self.proofs = threading.Lock(), {}, {}, proofs
@@ -337,7 +342,7 @@ class Work:
             left = self.proofs.wait_for(left)
             if self.held.get(number) not in left:
                 free = [crate for crate in left if crate not in self.held.values()]
-                self.held[number] = max(free or left, key=lambda crate: (is_program(crate), len(self.left[crate])))
+                self.held[number] = max(free or left, key=lambda crate: (is_program(crate), max(map(len, self.left[crate]))))
             return self.left[self.held[number]].pop()
 
 

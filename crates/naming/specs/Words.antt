@@ -12,21 +12,21 @@ use Rattle.records.specs.declared.key.Last.{Last}
 use Rattle.records.specs.declared.key.Last.the-variants as K
 use Rattle.day.specs.declared.value.Day.{Day}
 use Rattle.listing.specs.Lines.{decimal, signedDecimal, u32Field, u64Field, i32Field}
-use Rattle.naming.specs.declared.named.Subject.{Subject}
-use Rattle.naming.specs.declared.named.Subject.the-variants as S
-use Rattle.naming.specs.declared.named.UnitField.{UnitField}
-use Rattle.naming.specs.declared.named.UnitField.the-variants as U
-use Rattle.naming.specs.declared.named.Field.{Field}
-use Rattle.naming.specs.declared.named.Field.the-variants as F
-use Rattle.naming.specs.declared.named.Value.{Value}
-use Rattle.naming.specs.declared.named.Value.the-variants.{Plain, Signed}
-use Rattle.naming.specs.declared.named.Held.{Held}
-use Rattle.naming.specs.declared.named.Held.the-variants as H
-use Rattle.naming.specs.declared.named.Finding.{Finding}
-use Rattle.naming.specs.declared.named.Finding.the-variants as N
-use Rattle.naming.specs.declared.named.Told.{Told}
-use Rattle.naming.specs.declared.named.Named.{Named}
-use Rattle.naming.specs.Naming.{namedOf}
+use Rattle.finding.specs.declared.named.Subject.{Subject}
+use Rattle.finding.specs.declared.named.Subject.the-variants as S
+use Rattle.finding.specs.declared.named.UnitField.{UnitField}
+use Rattle.finding.specs.declared.named.UnitField.the-variants as U
+use Rattle.finding.specs.declared.named.Field.{Field}
+use Rattle.finding.specs.declared.named.Field.the-variants as F
+use Rattle.finding.specs.declared.named.Value.{Value}
+use Rattle.finding.specs.declared.named.Value.the-variants.{Plain, Signed}
+use Rattle.finding.specs.declared.named.Held.{Held}
+use Rattle.finding.specs.declared.named.Held.the-variants as H
+use Rattle.finding.specs.declared.named.Finding.{Finding}
+use Rattle.finding.specs.declared.named.Finding.the-variants as N
+use Rattle.finding.specs.declared.named.Told.{Told}
+use Rattle.finding.specs.declared.named.Named.{Named}
+use Rattle.finding.specs.Naming.{namedOf}
 
 -- ---- words, in ASCII
 -- `BRP`

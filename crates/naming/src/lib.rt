@@ -1,6 +1,3 @@
-// A refusal in words: the plant that it names, the field, the value read there, and what it was held against.
+// A refusal in words: one line of the plant, the field, the value read there, and what it was held against.
 pub mod name;
-mod named;
-mod reading;
-mod spot;
 mod words;

@@ -1,8 +1,8 @@
 // A refusal named in one line: BRP, zone, quarter and unit where they are at hand, the field, the value read and what it was held against.
 ghost use Rattle.naming.specs.Words.{Names};
-use crate::named::name_values;
 use crate::words::lay_line;
 use day::value::Day;
+use finding::named::name_values;
 use terms::refusal::Refusal;
 
 // A number's most bytes behind a space.

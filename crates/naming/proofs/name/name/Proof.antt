@@ -5,7 +5,7 @@ use lib.ListN.{length}
 use denote.Ref.{now}
 use borrow.Author.Tests.{lt-ltb, le-ltb}
 use Rattle.numbers.proofs.Laid.{laid-none}
-use Rattle.naming.specs.Naming.{namedOf}
+use Rattle.finding.specs.Naming.{namedOf}
 use Rattle.naming.specs.Words.{nameLine, longestLine}
 use borrow.Author.Needs.{needs}
 use Rattle.naming.proofs.name.name.Statement.{statement}

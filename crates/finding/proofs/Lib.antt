@@ -1,0 +1,4 @@
+-- Laws of what a refusal names.
+pub mod Spots
+pub mod Failing
+pub mod Plants

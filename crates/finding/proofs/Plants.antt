@@ -1,0 +1,288 @@
+-- A refusal of a unit's field names the first unit that does not pass: the offer's checks lead to its units, and the walk over them to its record.
+use Prim.Native.Nat.{ℕ, zero, suc, _+_, _-_, _≤_, _<_}
+use mathlib.Core.Path.{_≡_, refl, sym, ap, _∙_}
+use mathlib.Core.Bool.{Bool, true, false, false≢true}
+use mathlib.Core.List.{List}
+use native.Mathlib.Omega.{arith}
+use borrow.Author.Tests.{lt-ltb, le-ltb, le-leb, eq-eqb}
+use lib.Dec.{eqb}
+use lib.ListN.{length}
+use Rattle.numbers.specs.Bytes.{byteAt}
+use Rattle.numbers.specs.Choice.{pick}
+use Rattle.terms.specs.Reply.{Reply, is, refused, next}
+use Rattle.terms.specs.Refusals.{numberOf, whyOf, refusal}
+use Rattle.terms.specs.declared.refusal.Why.{Why}
+use Rattle.terms.specs.declared.refusal.Why.the-variants as W
+use Rattle.terms.specs.declared.refusal.Fault.{Fault}
+use Rattle.terms.specs.declared.refusal.Fault.the-variants as A
+use Rattle.terms.specs.declared.refusal.Refusal.{Refusal}
+use Rattle.terms.proofs.Replies.{never, need-is}
+use Rattle.terms.proofs.Same.{why-same}
+use Rattle.records.specs.declared.group.GroupRecord.{GroupRecord}
+use Rattle.records.specs.Layouts as L
+use Rattle.records.specs.Reading.{unitEnd, placeFrom, unitPlace, unitIn, faultPlace, groupFieldsOf, dayFieldsOf, endFieldsOf, unitsOf}
+use Rattle.records.proofs.Heads.{headed}
+use Rattle.records.proofs.Places.{place-later, place-from}
+use Rattle.walk.specs.declared.table.Role.{Role}
+use Rattle.walk.specs.declared.table.Role.the-variants.{Opens, Block, Closes}
+use Rattle.walk.specs.declared.table.Head.{Head}
+use Rattle.walk.specs.Table.{comes, none, roleOr, roleOf, isBlock, headIn}
+use Rattle.day.specs.declared.value.Day.{Day}
+use Rattle.day.specs.Checking.{blockFieldsOf}
+use Rattle.day.specs.Offers.{headFor, dayTaken, blockTaken, endTaken, taken, offerOf}
+use Rattle.day.proofs.ByKind.{head-came, group-long}
+use Rattle.finding.specs.declared.spot.Spot.the-variants.{Unit}
+use Rattle.finding.specs.declared.named.Field.the-variants as F
+use Rattle.finding.specs.declared.named.Subject.the-variants as S
+use Rattle.finding.specs.Spots.{groupWhole, spotFrom, spotOf}
+use Rattle.finding.specs.Naming.{keyIn, unitLayout, unitFieldAt, toldOf, findingOf, namedOf}
+use Rattle.finding.specs.Plants.{ofUnit, faultField, faultHeld, Plant}
+use Rattle.finding.proofs.Failing.{next-from, either, need-past, First, first}
+
+-- ---- the walk finds the record of the unit of an index
+abbrev beforeFrom : List ℕ → ℕ → ℕ → ℕ → ℕ
+beforeFrom s at before zero = before
+beforeFrom s at before (suc k) = placeFrom s at k
+
+-- counted from the second unit record on
+before-later : (s : List ℕ) (at k : ℕ) → beforeFrom s (unitEnd s at) at k ≡ placeFrom s at k
+unfolding placeFrom
+before-later s at zero = refl
+before-later s at (suc k) = place-later s at k
+
+spot-at : (s : List ℕ) (place index at before k left : ℕ) → k < left → placeFrom s at k ≤ place → place < unitEnd s (placeFrom s at k)
+    → spotFrom s place index at before left ≡ Unit (record { index = index + k; at = placeFrom s at k; before = beforeFrom s at before k })
+unfolding spotFrom placeFrom
+spot-at s place index at before k zero l low high = absurd (omega arith)
+spot-at s place index at before zero (suc left) l low high =
+    let z : index + 0 ≡ index = omega arith in
+    rw (lt-ltb place (unitEnd s at) high, z)
+spot-at s place index at before (suc k) (suc left) l low high =
+    let later = place-later s at k in
+    let past : unitEnd s at ≤ place = omega (arith, later, place-from s (unitEnd s at) k) in
+    let z : index + 1 + k ≡ index + suc k = omega arith in
+    rw (le-ltb place (unitEnd s at) past)
+    (spot-at s place (index + 1) (unitEnd s at) at k left (omega arith) (rw later low) (rw later high)
+    ∙ rw (z, later, before-later s at k))
+
+-- ---- the rows of a unit's faults
+row : (day : Day) (s : List ℕ) (at before : ℕ) (fault : Fault) (p : ℕ) → p - at ≡ faultPlace fault
+    → findingOf day s (whyOf fault) p at before ≡ toldOf s at (F.Unit (faultField fault)) (faultHeld (day .«record») s at before fault)
+unfolding findingOf unitFieldAt
+row day s at before A.Number p e = refl
+row day s at before A.Class p e = rw e
+row day s at before A.Coincide p e = rw e
+row day s at before A.Nominated p e = rw e
+row day s at before A.NotNominated p e = rw e
+row day s at before A.N p e = rw e
+row day s at before A.Pc p e = rw e
+row day s at before A.StepDown p e = rw e
+row day s at before A.StepUp p e = rw e
+row day s at before A.Crossed p e = refl
+row day s at before A.Age p e = refl
+
+field-at : (fault : Fault) → unitLayout (faultField fault) .place ≡ faultPlace fault
+field-at A.Number = refl
+field-at A.Class = refl
+field-at A.Coincide = refl
+field-at A.Nominated = refl
+field-at A.NotNominated = refl
+field-at A.N = refl
+field-at A.Pc = refl
+field-at A.StepDown = refl
+field-at A.StepUp = refl
+field-at A.Crossed = refl
+field-at A.Age = refl
+
+-- a place of fault lies within the record
+inside : (fault : Fault) → faultPlace fault < L.unitLength
+inside A.Number = omega arith
+inside A.Class = omega arith
+inside A.Coincide = omega arith
+inside A.Nominated = omega arith
+inside A.NotNominated = omega arith
+inside A.N = omega arith
+inside A.Pc = omega arith
+inside A.StepDown = omega arith
+inside A.StepUp = omega arith
+inside A.Crossed = omega arith
+inside A.Age = omega arith
+
+-- ---- numbers of a unit's field are those of no other check
+record Own (n : ℕ) : Type 0 where
+  low : 6 ≤ n
+  high : n ≤ 11
+  apart : n ≡ 10 → ⊥
+
+own : (w : Why) → ofUnit w ≡ true → Own (numberOf w)
+own W.CutShort e = absurd (false≢true e)
+own W.Kind e = absurd (false≢true e)
+own W.Quarters e = absurd (false≢true e)
+own W.Quarter e = absurd (false≢true e)
+own W.UnitCount e = absurd (false≢true e)
+own W.UnitNumber e = record { low = omega arith; high = omega arith; apart = λ z. omega arith }
+own W.Flag e = record { low = omega arith; high = omega arith; apart = λ z. omega arith }
+own W.Range e = record { low = omega arith; high = omega arith; apart = λ z. omega arith }
+own W.Crossed e = record { low = omega arith; high = omega arith; apart = λ z. omega arith }
+own W.PositionAge e = absurd (false≢true e)
+own W.MarginAge e = record { low = omega arith; high = omega arith; apart = λ z. omega arith }
+own W.Room e = absurd (false≢true e)
+own W.BlockOrder e = absurd (false≢true e)
+own W.EndCount e = absurd (false≢true e)
+own W.Columns e = absurd (false≢true e)
+
+no-block : {P : Type 0} (role : Role) → isBlock role ≡ false → role ≡ Block → P
+no-block role e k =
+    let z : isBlock role ≡ isBlock Block = ap isBlock k in
+    absurd (false≢true (sym e ∙ z))
+
+-- what is a block is a group record
+block-kind : (kind : ℕ) → roleOf kind ≡ Block → eqb kind L.groupKind ≡ true
+block-kind kind k = go (eqb kind L.dayKind) (eqb kind L.groupKind) (eqb kind L.endKind) k
+  where
+    go : (d g n : Bool) → roleOr (roleOr Closes (pick g (comes Block (L.groupLength - 1)) (pick n (comes Closes (L.endLength - 1)) none))) (pick d (comes Opens (L.dayLength - 1)) none) ≡ Block → g ≡ true
+    go true g n e = no-block Opens refl e
+    go false true n e = refl
+    go false false true e = no-block Closes refl e
+    go false false false e = no-block Closes refl e
+
+-- ---- from the offer to the block's units
+-- what is told of a reading refuses nothing of its own
+told-of : {A B : Type 0} (x : Reply A) (f : A → B) {n p : ℕ} → next x (λ a. is (f a)) ≡ refused n p → x ≡ refused n p
+unfolding next
+told-of (is a) f e = never (sym e)
+told-of (refused m q) f {n} {p} e =
+    let z : m ≡ n = cc in
+    let y : q ≡ p = cc in
+    rw (z, y)
+
+module _ (day : Day) (s : List ℕ) (n p : ℕ) (o : Own n) where
+  head-first : headFor day s ≡ refused n p → ⊥
+  unfolding headFor headIn
+  head-first e =
+      let a = need-past _ 1 _ _ e (λ z. omega (arith, o .low)) in
+      let b = need-past _ 2 _ _ a (λ z. omega (arith, o .low)) in
+      let c = need-past _ 1 _ _ b (λ z. omega (arith, o .low)) in
+      let d = need-past _ 2 _ _ c (λ z. omega (arith, o .low)) in
+      never (sym (need-past _ 1 _ _ d (λ z. omega (arith, o .low))))
+
+  day-first : (end : ℕ) → dayTaken s end ≡ refused n p → ⊥
+  unfolding dayTaken dayFieldsOf
+  day-first end e =
+      either (next-from (dayFieldsOf s) _ e) (λ h. never (sym (need-past _ 3 _ _ h (λ z. omega (arith, o .low))))) (λ d h f. never (sym f))
+
+  end-first : (end : ℕ) → endTaken day s end ≡ refused n p → ⊥
+  unfolding endTaken endFieldsOf
+  end-first end e =
+      either (next-from (endFieldsOf s (day .groups)) _ e) (λ h. never (sym (need-past _ 14 _ _ h (λ z. omega (arith, o .high))))) (λ d h f. never (sym f))
+
+  abbrev units : Reply ℕ
+  units = unitsOf s L.groupLength 0 (day .«record» .run) (day .«record» .«margin_limit») (L.groupAt s 0 .count)
+
+  -- the group's own checks have other numbers, and then come the units
+  group-first : groupFieldsOf s (day .«record») (day .last) ≡ refused n p → ⊥
+  unfolding groupFieldsOf
+  group-first h =
+      let a = need-past _ 4 _ _ h (λ z. omega (arith, o .low)) in
+      let b = need-past _ 5 _ _ a (λ z. omega (arith, o .low)) in
+      let c = need-past _ 13 _ _ b (λ z. omega (arith, o .high)) in
+      never (sym (need-past _ 10 _ _ c (o .apart)))
+
+  group-read : {g : GroupRecord} → groupFieldsOf s (day .«record») (day .last) ≡ is g → g ≡ L.groupAt s 0
+  unfolding groupFieldsOf
+  group-read h =
+      let a = need-is _ _ _ _ h in
+      let b = need-is _ _ _ _ (a .1) in
+      let c = need-is _ _ _ _ (b .1) in
+      let d = need-is _ _ _ _ (c .1) in
+      cc (d .1)
+
+  fields-first : blockFieldsOf day s ≡ refused n p → units ≡ refused n p
+  unfolding blockFieldsOf
+  fields-first e =
+      either (next-from (groupFieldsOf s (day .«record») (day .last)) _ e) (λ h. absurd (group-first h))
+      (λ g h f. told-of units _ (rw (group-read h) at f))
+
+  block-first : (room : ℕ) → blockTaken day s room ≡ refused n p → units ≡ refused n p
+  unfolding blockTaken
+  block-first room e =
+      either (next-from (blockFieldsOf day s) _ e) (λ h. fields-first h) (λ b h f. never (sym (need-past _ 12 _ _ f (λ z. omega (arith, o .high)))))
+
+  -- the block lies whole in front as far as its group record goes, and its units are refused
+  record Reached : Type 0 where
+    whole : groupWhole s ≡ true
+    refusing : units ≡ refused n p
+
+  by-role : (room : ℕ) (head : Head) → headFor day s ≡ is head → (role : Role) → head .role ≡ role → taken day s room role (head .end) ≡ refused n p → Reached
+  by-role room head h Opens k f = absurd (day-first (head .end) f)
+  by-role room head h Block k f =
+      let long = le-leb L.groupLength (length s) (group-long day s head h k) in
+      let kind = block-kind (byteAt s 0) (head-came day s head h .first ∙ k) in
+      record { whole = rw (long, kind); refusing = block-first room f }
+  by-role room head h Closes k f = absurd (end-first (head .end) f)
+
+  reached : (room : ℕ) → offerOf day s room ≡ refused n p → Reached
+  unfolding offerOf
+  reached room e = either (next-from (headFor day s) _ e) (λ h. absurd (head-first h)) (λ head h f. by-role room head h (head .role) refl f)
+
+-- ---- the theorem
+module _ (day : Day) (s : List ℕ) (r : Refusal) where
+  before-one : (k : ℕ) → beforeFrom s L.groupLength L.groupLength k ≡ unitPlace s (k - 1)
+  unfolding placeFrom
+  before-one zero = refl
+  before-one (suc k) =
+      let z : suc k - 1 ≡ k = omega arith in
+      rw z
+
+  abbrev run : ℕ
+  run = day .«record» .run
+
+  abbrev limit : ℕ
+  limit = day .«record» .«margin_limit»
+
+  spot-found : groupWhole s ≡ true → L.groupLength ≤ r .place → spotOf s (r .place) ≡ spotFrom s (r .place) 0 L.groupLength L.groupLength (L.groupAt s 0 .count)
+  unfolding spotOf
+  spot-found w l = simp (w, le-leb L.groupLength (r .place) l)
+
+  named-at : (i : ℕ) (fault : Fault) → r .why ≡ whyOf fault → spotOf s (r .place) ≡ Unit (record { index = 0 + i; at = unitPlace s i; before = unitPlace s (i - 1) })
+      → r .place ≡ unitPlace s i + faultPlace fault → unitPlace s i + L.unitClass .place ≤ length s → byteAt s (unitPlace s i) ≡ L.unitKind
+      → namedOf day s r
+      ≡ record {
+        subject = S.Unit (keyIn s) (unitIn s i .number);
+        finding = toldOf s (unitPlace s i) (F.Unit (faultField fault)) (faultHeld (day .«record») s (unitPlace s i) (unitPlace s (i - 1)) fault);
+      }
+  unfolding namedOf L.unitAt
+  named-at i fault why spot place long kind =
+      let e = row day s (unitPlace s i) (unitPlace s (i - 1)) fault (r .place) (omega (arith, place)) in
+      rw (spot, why, e, le-leb _ _ long, eq-eqb _ _ kind)
+
+  by-first : (high : 3 ≤ numberOf (r .why)) → groupWhole s ≡ true → First (numberOf (r .why)) (r .place) high s L.groupLength 0 run limit (L.groupAt s 0 .count) → Plant day s r
+  by-first above whole f =
+      let i = f .index in
+      let at = unitPlace s i in
+      let fault = f .fault in
+      let why : r .why ≡ whyOf fault = why-same (r .why) (whyOf fault) (f .number) in
+      let low : at ≤ r .place = omega (arith, f .place) in
+      let high : r .place < unitEnd s at = omega (arith, f .place, inside fault) in
+      let behind : L.groupLength ≤ r .place = omega (arith, place-from s L.groupLength i) in
+      let spot : spotOf s (r .place) ≡ Unit (record { index = 0 + i; at = at; before = unitPlace s (i - 1) }) =
+      spot-found whole behind ∙ spot-at s (r .place) 0 L.groupLength L.groupLength i (L.groupAt s 0 .count) (f .counted) low high ∙ rw (before-one i) in
+      let head = headed s at L.unitKind L.unitLength (f .head) in
+      record {
+        index = i;
+        fault = fault;
+        counted = f .counted;
+        pass = f .pass;
+        fails = f .fails;
+        why = why;
+        place = f .place;
+        field = field-at fault;
+        named = named-at i fault why spot (f .place) (omega (arith, head .long)) (head .first);
+      }
+
+  pub plant-named : (room : ℕ) → offerOf day s room ≡ refusal r → ofUnit (r .why) ≡ true → Plant day s r
+  plant-named room e u =
+      let o = own (r .why) u in
+      let f = reached day s (numberOf (r .why)) (r .place) o room e in
+      let above : 3 ≤ numberOf (r .why) = omega (arith, o .low) in
+      by-first above (f .whole) (first (numberOf (r .why)) (r .place) above s L.groupLength 0 run limit (L.groupAt s 0 .count) (f .refusing))

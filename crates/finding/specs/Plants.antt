@@ -1,0 +1,84 @@
+-- A refusal of a unit's field names the right plant: the first unit of the block that does not pass.
+use Prim.Native.Nat.{ℕ, suc, _+_, _-_, _<_}
+use mathlib.Core.Path.{_≡_}
+use mathlib.Core.Bool.{Bool, true, false}
+use mathlib.Core.List.{List}
+use Rattle.terms.specs.Reply.{is}
+use Rattle.terms.specs.Refusals.{whyOf, refusal}
+use Rattle.terms.specs.declared.refusal.Why.{Why}
+use Rattle.terms.specs.declared.refusal.Why.the-variants as W
+use Rattle.terms.specs.declared.refusal.Fault.{Fault}
+use Rattle.terms.specs.declared.refusal.Fault.the-variants as A
+use Rattle.terms.specs.declared.refusal.Refusal.{Refusal}
+use Rattle.records.specs.declared.day.DayRecord.{DayRecord}
+use Rattle.records.specs.Layouts as L
+use Rattle.records.specs.Reading.{faultPlace, unitPlace, unitIn, unitsOf}
+use Rattle.day.specs.declared.value.Day.{Day}
+use Rattle.finding.specs.declared.named.Subject.the-variants as S
+use Rattle.finding.specs.declared.named.UnitField.{UnitField}
+use Rattle.finding.specs.declared.named.UnitField.the-variants as U
+use Rattle.finding.specs.declared.named.Field.the-variants as F
+use Rattle.finding.specs.declared.named.Held.{Held}
+use Rattle.finding.specs.declared.named.Held.the-variants as H
+use Rattle.finding.specs.Naming.{keyIn, unitLayout, ageHeld, toldOf, namedOf}
+
+-- 6 to 9 and 11
+abbrev pub ofUnit : Why → Bool
+ofUnit W.CutShort = false
+ofUnit W.Kind = false
+ofUnit W.Quarters = false
+ofUnit W.Quarter = false
+ofUnit W.UnitCount = false
+ofUnit W.UnitNumber = true
+ofUnit W.Flag = true
+ofUnit W.Range = true
+ofUnit W.Crossed = true
+ofUnit W.PositionAge = false
+ofUnit W.MarginAge = true
+ofUnit W.Room = false
+ofUnit W.BlockOrder = false
+ofUnit W.EndCount = false
+ofUnit W.Columns = false
+
+-- the field at fault, and what it is held against: the unit's record begins at a place, and the one before it at another
+abbrev pub faultField : Fault → UnitField
+faultField A.Number = U.Number
+faultField A.Class = U.Class
+faultField A.Coincide = U.Coincide
+faultField A.Nominated = U.Nominated
+faultField A.NotNominated = U.N
+faultField A.N = U.N
+faultField A.Pc = U.Pc
+faultField A.StepDown = U.StepDown
+faultField A.StepUp = U.StepUp
+faultField A.Crossed = U.StepUp
+faultField A.Age = U.Made
+
+abbrev pub faultHeld : DayRecord → List ℕ → ℕ → ℕ → Fault → Held
+faultHeld d s at before A.Number = H.Above (L.valueAt s before L.unitNumber)
+faultHeld d s at before A.Class = H.Flag
+faultHeld d s at before A.Coincide = H.Flag
+faultHeld d s at before A.Nominated = H.Flag
+faultHeld d s at before A.NotNominated = H.NotNominated
+faultHeld d s at before A.N = H.Range
+faultHeld d s at before A.Pc = H.Range
+faultHeld d s at before A.StepDown = H.Range
+faultHeld d s at before A.StepUp = H.Range
+faultHeld d s at before A.Crossed = H.AtLeast (L.valueAt s at L.unitStepDown)
+faultHeld d s at before A.Age = ageHeld (d .run) (L.valueAt s at L.unitMade) (d .«margin_limit»)
+
+-- The units before it pass, it does not, and the place is its own record's and then the field's; BRP, zone and quarter are the block's own, the number is its own.
+pub record Plant (day : Day) (s : List ℕ) (r : Refusal) : Type 0 where
+  pub index : ℕ
+  pub fault : Fault
+  pub counted : index < L.groupAt s 0 .count
+  pub pass : unitsOf s L.groupLength 0 (day .«record» .run) (day .«record» .«margin_limit») index ≡ is (unitPlace s index)
+  pub fails : unitsOf s L.groupLength 0 (day .«record» .run) (day .«record» .«margin_limit») (suc index) ≡ refusal r
+  pub why : r .why ≡ whyOf fault
+  pub place : r .place ≡ unitPlace s index + faultPlace fault
+  pub field : unitLayout (faultField fault) .place ≡ faultPlace fault
+  pub named : namedOf day s r
+      ≡ record {
+        subject = S.Unit (keyIn s) (unitIn s index .number);
+        finding = toldOf s (unitPlace s index) (F.Unit (faultField fault)) (faultHeld (day .«record») s (unitPlace s index) (unitPlace s (index - 1)) fault);
+      }
