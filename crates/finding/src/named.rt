@@ -93,7 +93,7 @@ pub struct Told {
 }
 
 pub enum Finding {
-    // After so many bytes.
+    // So many bytes are at hand.
     CutShort(usize),
     Told(Told),
     NotAfter(Last),

@@ -185,13 +185,9 @@ aheadPhrase = 44 ∷ 32 ∷ 109 ∷ 97 ∷ 100 ∷ 101 ∷ 32 ∷ 97 ∷ 102 ∷
 abbrev pub acceptedWord : List ℕ
 acceptedWord = 44 ∷ 32 ∷ 97 ∷ 99 ∷ 99 ∷ 101 ∷ 112 ∷ 116 ∷ 101 ∷ 100 ∷ []
 
--- `cut short after`
+-- `cut short, bytes at hand`
 abbrev pub cutWord : List ℕ
-cutWord = 99 ∷ 117 ∷ 116 ∷ 32 ∷ 115 ∷ 104 ∷ 111 ∷ 114 ∷ 116 ∷ 32 ∷ 97 ∷ 102 ∷ 116 ∷ 101 ∷ 114 ∷ []
-
--- ` bytes`
-abbrev pub bytesPhrase : List ℕ
-bytesPhrase = 32 ∷ 98 ∷ 121 ∷ 116 ∷ 101 ∷ 115 ∷ []
+cutWord = 99 ∷ 117 ∷ 116 ∷ 32 ∷ 115 ∷ 104 ∷ 111 ∷ 114 ∷ 116 ∷ 44 ∷ 32 ∷ 98 ∷ 121 ∷ 116 ∷ 101 ∷ 115 ∷ 32 ∷ 97 ∷ 116 ∷ 32 ∷ 104 ∷ 97 ∷ 110 ∷ 100 ∷ []
 
 -- `not after `
 abbrev pub afterWord : List ℕ
@@ -279,7 +275,7 @@ lastWords K.Nothing = firstPhrase
 lastWords (K.Block k) = afterWord ++ keyWords k
 
 unfoldable pub findingWords : Finding → List ℕ
-findingWords (N.CutShort n) = numbered cutWord n ++ bytesPhrase
+findingWords (N.CutShort n) = numbered cutWord n
 findingWords (N.Told t) = toldWords t
 findingWords (N.NotAfter last) = lastWords last
 findingWords N.Room = roomPhrase

@@ -195,10 +195,7 @@ fn lay_finding(out: &mut [u8], at: usize, finding: Finding) -> usize
     ensures { λ r. ⌜ Lays (now (out .entry)) at (findingWords finding) longestFinding r (now (out .exit)) ⌝ }
 {
     match finding {
-        Finding::CutShort(n) => {
-            let cut = lay_counted(out, at, b"cut short after", n);
-            lay_word(out, cut, b" bytes")
-        }
+        Finding::CutShort(n) => lay_counted(out, at, b"cut short, bytes at hand", n),
         Finding::Told(t) => lay_told(out, at, t),
         Finding::NotAfter(last) => lay_last(out, at, last),
         Finding::Room => lay_word(out, at, b"room too small"),

@@ -1,7 +1,7 @@
 -- `lay_finding` meets its contract, row by row.
 use native.Mathlib.Omega.{arith}
 use Rattle.naming.specs.Words.{findingWords, longestFinding}
-use Rattle.naming.proofs.Laying.{up, and}
+use Rattle.naming.proofs.Laying.{up}
 use borrow.Author.Needs.{needs}
 use Rattle.naming.proofs.words.lay_finding.Statement.{statement}
 use Rattle.naming.proofs.words.lay_finding.Tie as tie
@@ -14,12 +14,6 @@ slice-aggregate-lay-counted c = search needs
 
 lay-counted-requires : tie.Need-lay-counted-requires
 lay-counted-requires c κs = search needs
-
-slice-aggregate-lay-word : tie.Need-slice-aggregate-lay-word
-slice-aggregate-lay-word c = search needs
-
-lay-word-requires : tie.Need-lay-word-requires
-lay-word-requires c κs = search needs
 
 enum-known-finding-2 : tie.Need-enum-known-finding-2
 enum-known-finding-2 c = search needs
@@ -36,20 +30,20 @@ lay-last-requires c κs = search needs
 enum-told : tie.Need-enum-told
 enum-told c = search needs
 
+slice-aggregate-lay-word : tie.Need-slice-aggregate-lay-word
+slice-aggregate-lay-word c = search needs
+
+lay-word-requires : tie.Need-lay-word-requires
+lay-word-requires c κs = search needs
+
+enum-told-2 : tie.Need-enum-told-2
+enum-told-2 c = search needs
+
 slice-aggregate-lay-word-2 : tie.Need-slice-aggregate-lay-word-2
 slice-aggregate-lay-word-2 c = search needs
 
 lay-word-requires-2 : tie.Need-lay-word-requires-2
 lay-word-requires-2 c κs = search needs
-
-enum-told-2 : tie.Need-enum-told-2
-enum-told-2 c = search needs
-
-slice-aggregate-lay-word-3 : tie.Need-slice-aggregate-lay-word-3
-slice-aggregate-lay-word-3 c = search needs
-
-lay-word-requires-3 : tie.Need-lay-word-requires-3
-lay-word-requires-3 c κs = search needs
 
 same-length : tie.Need-same-length
 same-length c = search needs
@@ -58,10 +52,8 @@ returns : tie.Need-returns
 unfolding findingWords
 returns c =
     let last = c .before .before in
-    let first = last .before .before .before .before .before in
-    let arm = first .before .before .before .before in
-    let pre = arm .before .before .before .pre in
-    rw (arm .finding .given .1) (up (and (first .lay-counted .ensures) (last .lay-word .ensures) (omega (arith, pre))) longestFinding (omega arith))
+    let arm = last .before .before .before .before in
+    rw (arm .finding .given .1) (up (last .lay-counted .ensures) longestFinding (omega arith))
 
 same-length-2 : tie.Need-same-length-2
 same-length-2 c = search needs
@@ -91,7 +83,7 @@ unfolding findingWords
 returns-4 c =
     let last = c .before .before in
     let arm = last .before .before .before in
-    rw (arm .enum-told .given .1) (up (last .lay-word2 .ensures) longestFinding (omega arith))
+    rw (arm .enum-told .given .1) (up (last .lay-word .ensures) longestFinding (omega arith))
 
 same-length-5 : tie.Need-same-length-5
 same-length-5 c = search needs
@@ -101,7 +93,7 @@ unfolding findingWords
 returns-5 c =
     let last = c .before .before in
     let arm = last .before .before .before in
-    rw (arm .enum-told2 .given .1) (up (last .lay-word3 .ensures) longestFinding (omega arith))
+    rw (arm .enum-told2 .given .1) (up (last .lay-word2 .ensures) longestFinding (omega arith))
 
 pub lay-finding-spec : {M : Type 1} → statement M
 lay-finding-spec =
@@ -110,18 +102,16 @@ lay-finding-spec =
     enum-known-finding
     slice-aggregate-lay-counted
     lay-counted-requires
-    slice-aggregate-lay-word
-    lay-word-requires
     enum-known-finding-2
     lay-told-requires
     enum-known-finding-3
     lay-last-requires
     enum-told
+    slice-aggregate-lay-word
+    lay-word-requires
+    enum-told-2
     slice-aggregate-lay-word-2
     lay-word-requires-2
-    enum-told-2
-    slice-aggregate-lay-word-3
-    lay-word-requires-3
     same-length
     returns
     same-length-2
