@@ -19,15 +19,14 @@ USED = re.compile(r"^use (?:crate::)?((?:\w+::)*\w+);\n", re.M)
 
 
 class Piece:
-    """A function in its file: from its header to the end of its body, and the folder of its proof."""
+    """A function in its file: from its header, with the attributes above it, to the end of its body, and the folder of its proof."""
 
     def __init__(self, region):
         self.name, self.file, self.function = region.function.name, f"src/{region.path.name}", region.function
-        self.text = region.text[region.header : region.end]
-        self.span = region.header, region.end
+        above = re.search(r"(?:^ *#\[.*\]\n)*\Z", region.text[: region.header], re.M).start()
+        self.text, self.span = region.text[above : region.end], (above, region.end)
         self.path = self.name.split("::")[1:]
         self.proof = "/".join(["proofs", *self.path])
-        self.marked = region.text[: region.header].rstrip().endswith("]")
 
     def short(self):
         return self.path[-1]
@@ -100,7 +99,7 @@ class Crate:
     def without_rest(self, names):
         """What a copy of the crate loses where only these functions are checked: pieces of its files, and files of its proofs."""
         functions, laws = self.kept([*names, *self.methods_beside(names)])
-        gone = [one for name, one in self.functions.items() if name not in functions and not one.marked]
+        gone = [one for name, one in self.functions.items() if name not in functions]
         pieces = [(one.file, *one.span, "") for one in gone]
         lost = {"::".join(one.path) for one in gone}
         for file, text in self.sources.items():
