@@ -125,12 +125,18 @@ fn say_value(value: i32) {
     io::print_decimal(STDERR_FILENO, magnitude(value) as u64);
 }
 
-// What is wrong with a value, by the refusal's number.
+// What is wrong with a value, by the refusal's number: that of a day's or a group's field, and that of a unit's.
 fn say_why(number: u8, name: Name) {
     match number {
         3 => say(b" is not 92, 96 or 100"),
         4 => say(b" is above 99"),
         5 => say(b" is not from 1 to 64"),
+        _ => say_unit_why(number, name),
+    }
+}
+
+fn say_unit_why(number: u8, name: Name) {
+    match number {
         6 => say(b" is not above the number before it"),
         7 => say_flag(name),
         8 => say(b" is not from -1000000 to 1000000"),
