@@ -13,9 +13,9 @@ use Rattle.records.specs.Longest.{longestResult}
 use Rattle.day.specs.declared.offer.Step.{Step}
 use Rattle.day.specs.Offers.{offerOf}
 use Rattle.day.proofs.Beyond.{inside}
+use Rattle.lines.specs.Lines.{longestLines}
 use Rattle.listing.specs.declared.list.Listing.{Listing}
 use Rattle.listing.specs.declared.list.Listed.{Listed}
-use Rattle.listing.specs.Lines.{longestLines}
 use Rattle.listing.specs.Listing.{Answer, accepts, refuses, waits, full, done, answerOf, Outcome, outcome, listTaken, listRefused, listReply, mustWait, listOffered, over, listOf, Lists}
 
 -- the bytes that an answer tells as used, and as written

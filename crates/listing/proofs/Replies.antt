@@ -32,11 +32,11 @@ use Rattle.day.proofs.Taking.{result-length}
 use Rattle.day.proofs.Outcomes.{taken-block, reply}
 use Rattle.blocks.proofs.ReadBack.{group-back, unit-back}
 use Rattle.day.proofs.Demands.{block-accepted, result-bytes, group-told, unit-told}
+use Rattle.lines.specs.Lines.{unitLine, unitLineAt, resultLines, longestLines}
+use Rattle.lines.specs.Inner.{Readable}
 use Rattle.listing.specs.declared.list.Listing.{Listing}
 use Rattle.listing.specs.declared.list.Listed.{Listed}
 use Rattle.listing.specs.declared.list.Listed.the-variants.{Full, Done}
-use Rattle.listing.specs.Lines.{unitLine, unitLineAt, resultLines, longestLines}
-use Rattle.listing.specs.Inner.{Readable}
 use Rattle.listing.specs.Listing.{answerOf, waits, full, done, outcome, acceptedLines, listTaken, listRefused, listReply, mustWait, listOffered, over, listOf, Lists}
 
 module _ (l : Listing) (s : List ℕ) (ended : Bool) (entry : List ℕ) where

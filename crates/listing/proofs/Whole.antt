@@ -18,9 +18,9 @@ use Rattle.day.specs.Days.{fresh, possible}
 use Rattle.day.specs.Offers.{headFor, taken, offerOf, writtenOf, cutShort}
 use Rattle.day.proofs.Beyond.{used, inside, offer-unread}
 use Rattle.day.proofs.Stands.{offer-stands, cut-short}
+use Rattle.lines.specs.Lines.{refusedLine, longestLines}
 use Rattle.listing.specs.declared.list.Listing.{Listing}
 use Rattle.listing.specs.declared.list.Part.{Part}
-use Rattle.listing.specs.Lines.{refusedLine, longestLines}
 use Rattle.listing.specs.Listing.{further, Answer, accepts, refuses, waits, full, done, Outcome, outcome, acceptedLines, listTaken, listRefused, listReply, mustWait, listOffered, over, listOf}
 use Rattle.listing.specs.Whole.{following, onward, linesFrom, dayList, Steps, went, stopped, finished}
 

@@ -1,5 +1,3 @@
--- The day list: its lines, and one step of it.
-pub mod Lines
-pub mod Inner
+-- The day list: one step of it, and the whole.
 pub mod Listing
 pub mod Whole

@@ -16,11 +16,11 @@ use Rattle.walk.specs.Table.{roleOf, isClosed}
 use Rattle.day.specs.declared.value.Day.{Day}
 use Rattle.day.specs.declared.offer.Step.{Step}
 use Rattle.day.specs.Offers.{offerOf, writtenOf, cutShort}
+use Rattle.lines.specs.Lines.{dayLine, endLine, refusedLine, resultLines, longestLines}
 use Rattle.listing.specs.declared.list.Listing.{Listing}
 use Rattle.listing.specs.declared.list.Part.{Part}
 use Rattle.listing.specs.declared.list.Listed.{Listed}
 use Rattle.listing.specs.declared.list.Listed.the-variants.{Taken, Refused, Waits, Full, Done}
-use Rattle.listing.specs.Lines.{dayLine, endLine, refusedLine, resultLines, longestLines}
 
 -- a place of the input, in 64 bits
 abbrev pub further : ℕ → ℕ → ℕ

@@ -12,9 +12,9 @@ use Rattle.walk.specs.Table.{roleOf}
 use Rattle.day.specs.declared.offer.Step.{Step}
 use Rattle.day.specs.Days.{fresh}
 use Rattle.day.specs.Offers.{offerOf, writtenOf}
+use Rattle.lines.specs.Lines.{refusedLine}
 use Rattle.listing.specs.declared.list.Listing.{Listing}
 use Rattle.listing.specs.declared.list.Part.{Part}
-use Rattle.listing.specs.Lines.{refusedLine}
 use Rattle.listing.specs.Listing.{further, accepts, refuses, done, outcome, acceptedLines, over, listOf}
 
 -- the list after what was accepted

@@ -1,6 +1,2 @@
-// The day list: the lines of what a day accepts, and one step of the list.
-pub mod field;
-mod lines;
+// The day list: one step of it.
 pub mod list;
-mod number;
-pub mod table;

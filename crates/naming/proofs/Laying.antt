@@ -3,8 +3,8 @@ use Prim.Native.Nat.{ℕ, _+_, _≤_}
 use mathlib.Core.List.{List, _++_}
 use native.Mathlib.Omega.{arith}
 use lib.ListN.{length}
-use Rattle.listing.specs.Inner.{Lays}
-use Rattle.listing.proofs.Parts.{then, within}
+use Rattle.lines.specs.Inner.{Lays}
+use Rattle.lines.proofs.Parts.{then, within}
 
 module _ {entry out xs : List ℕ} {at m j : ℕ} (a : Lays entry at xs m j out) where
   pub up : (n : ℕ) → m ≤ n → Lays entry at xs n j out

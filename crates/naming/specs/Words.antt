@@ -11,7 +11,7 @@ use Rattle.records.specs.declared.key.Key.{Key}
 use Rattle.records.specs.declared.key.Last.{Last}
 use Rattle.records.specs.declared.key.Last.the-variants as K
 use Rattle.day.specs.declared.value.Day.{Day}
-use Rattle.listing.specs.Lines.{decimal, signedDecimal, u32Field, u64Field, i32Field}
+use Rattle.lines.specs.Lines.{decimal, signedDecimal, u32Field, u64Field, i32Field}
 use Rattle.finding.specs.declared.named.Subject.{Subject}
 use Rattle.finding.specs.declared.named.Subject.the-variants as S
 use Rattle.finding.specs.declared.named.UnitField.{UnitField}

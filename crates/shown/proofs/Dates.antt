@@ -13,8 +13,8 @@ use Rattle.calendar.specs.declared.moment.Moment.{Moment}
 use Rattle.calendar.specs.declared.moment.Shown.the-variants.{At, Later}
 use Rattle.calendar.specs.Calendar.{dateOf, momentOf, shownOf, lastMinute}
 use Rattle.calendar.proofs.Trips.{day-date, minute-moment}
-use Rattle.listing.specs.Lines.{digit}
-use Rattle.listing.proofs.Digits.{some-digit}
+use Rattle.lines.specs.Lines.{digit}
+use Rattle.lines.proofs.Digits.{some-digit}
 use Rattle.text.specs.declared.numbers_in.Size.the-variants.{Is}
 use Rattle.text.specs.Numbers.{allDigits, numberFrom, sizeOf, fieldOf}
 use Rattle.text.specs.Dates.{hasDate, dateIn, hasTime, momentIn, dayIn, minuteIn}

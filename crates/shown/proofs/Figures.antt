@@ -9,8 +9,8 @@ use borrow.Author.Tests.{le-leb, lt-ltb, leb-true, ne-eqb}
 use lib.Dec.{leb}
 use lib.ListN.{length}
 use Rattle.numbers.proofs.Choices.{and-both}
-use Rattle.listing.specs.Lines.{digit, digits, decimal}
-use Rattle.listing.proofs.Digits.{last-digit, more-digits, tenth-below, some-digit, no-more}
+use Rattle.lines.specs.Lines.{digit, digits, decimal}
+use Rattle.lines.proofs.Digits.{last-digit, more-digits, tenth-below, some-digit, no-more}
 use Rattle.text.specs.declared.numbers_in.Size.the-variants.{Is}
 use Rattle.text.specs.Numbers.{isDigit, allDigits, numberFrom, sizeFrom, sizeOf, fieldOf, minus, numberIn}
 use Rattle.text.specs.Dates.{dayIn, minuteIn}

@@ -11,8 +11,8 @@ use Rattle.numbers.specs.Bytes.{Bytes}
 use Rattle.numbers.proofs.Trips.{below16, below32}
 use Rattle.records.specs.declared.day.DayRecord.{DayRecord}
 use Rattle.records.specs.Layouts as L
-use Rattle.listing.specs.Lines.{decimal, spaced, line, dayLine}
-use Rattle.listing.proofs.Digits.{some-digit}
+use Rattle.lines.specs.Lines.{decimal, spaced, line, dayLine}
+use Rattle.lines.proofs.Digits.{some-digit}
 use Rattle.text.specs.declared.fields.Field.{Field}
 use Rattle.text.specs.declared.line.DayLine.the-variants.{Is}
 use Rattle.text.specs.declared.values_in.Form.the-variants as F

@@ -5,7 +5,7 @@ ghost use lib.ListN.{length};
 ghost use Rattle.numbers.specs.Choice.{pick};
 ghost use Rattle.shown.specs.Shown.{datedLine, longestDated, shownIn, Fronts};
 use crate::words::lay_dated;
-use listing::field::lay_word;
+use lines::field::lay_word;
 use text::line::DayLine;
 use text::line::day_line_in;
 

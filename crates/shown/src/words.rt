@@ -2,8 +2,8 @@
 ghost use mathlib.Core.List.{_∷_};
 ghost use Prim.Native.Nat.{_+_, _≤_, _<_};
 ghost use lib.ListN.{length};
-ghost use Rattle.listing.specs.Lines.{decimal, u32Field};
-ghost use Rattle.listing.specs.Inner.{Lays};
+ghost use Rattle.lines.specs.Lines.{decimal, u32Field};
+ghost use Rattle.lines.specs.Inner.{Lays};
 ghost use Rattle.shown.specs.Inner.{Few, FewMoment};
 ghost use Rattle.shown.specs.Shown.{twoDigits, dateWord, momentWord, dayShown, minuteShown, datedLine, longestDated};
 use calendar::date::Date;
@@ -11,10 +11,10 @@ use calendar::date::date_of;
 use calendar::moment::Moment;
 use calendar::moment::Shown;
 use calendar::moment::moment_of;
-use listing::field::SPACE;
-use listing::field::lay_u32_field;
-use listing::field::lay_word;
-use listing::table::PAIRS;
+use lines::field::SPACE;
+use lines::field::lay_u32_field;
+use lines::field::lay_word;
+use lines::table::PAIRS;
 use numbers::bytes::lay_u8;
 
 // The digit 0, in ASCII.

@@ -1,9 +1,9 @@
 -- `lay_accepted` meets its contract, by what the record is to the day.
 use native.Mathlib.Omega.{arith}
 use denote.Ref.{now}
-use Rattle.listing.specs.Lines.{longestDayLine, longestEndLine, longestLines}
+use Rattle.lines.specs.Lines.{longestDayLine, longestEndLine, longestLines}
+use Rattle.lines.proofs.Parts.{within}
 use Rattle.listing.specs.Listing.{acceptedLines}
-use Rattle.listing.proofs.Parts.{within}
 use borrow.Author.Needs.{needs}
 use Rattle.listing.proofs.list.lay_accepted.Statement.{statement}
 use Rattle.listing.proofs.list.lay_accepted.Tie as tie

@@ -3,7 +3,7 @@ use mathlib.Core.Path.{_≡_}
 use native.Mathlib.Omega.{arith}
 use lib.ListN.{length}
 use Rattle.terms.specs.Refusals.{numberOf}
-use Rattle.listing.specs.Lines.{refusedLine}
+use Rattle.lines.specs.Lines.{refusedLine}
 use Rattle.listing.specs.Listing.{further, listRefused}
 use borrow.Author.Needs.{needs}
 use Rattle.listing.proofs.list.lay_stop.Statement.{statement}

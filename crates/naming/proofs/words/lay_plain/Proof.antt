@@ -1,7 +1,7 @@
 -- `lay_plain` meets its contract: the table is that of the digit pairs.
 use mathlib.Core.Path.{refl}
 use Rattle.numbers.specs.Column.{column}
-use Rattle.listing.specs.Inner.{digitPairs}
+use Rattle.lines.specs.Inner.{digitPairs}
 use borrow.Author.Needs.{needs}
 use Rattle.naming.proofs.words.lay_plain.Statement.{statement}
 use Rattle.naming.proofs.words.lay_plain.Tie as tie

@@ -4,7 +4,7 @@ use mir.Syntax.{w32}
 use mir.Val.{toZ, ofZ}
 use mir.Facts.{toZ-ofZ}
 use Rattle.numbers.specs.Column.{column}
-use Rattle.listing.specs.Inner.{digitPairs}
+use Rattle.lines.specs.Inner.{digitPairs}
 use borrow.Author.Needs.{needs}
 use Rattle.naming.proofs.words.lay_signed.Statement.{statement}
 use Rattle.naming.proofs.words.lay_signed.Tie as tie

@@ -2,7 +2,7 @@
 use Prim.Native.Nat.{_+_}
 use native.Mathlib.Omega.{arith}
 use denote.Ref.{now}
-use Rattle.listing.proofs.Parts.{then, one-byte}
+use Rattle.lines.proofs.Parts.{then, one-byte}
 use borrow.Author.Needs.{needs}
 use Rattle.shown.proofs.words.lay_behind.Statement.{statement}
 use Rattle.shown.proofs.words.lay_behind.Tie as tie

@@ -2,7 +2,7 @@
 use native.Mathlib.Omega.{arith}
 use denote.Ref.{now}
 use Rattle.shown.specs.Shown.{dateWord}
-use Rattle.listing.proofs.Parts.{then}
+use Rattle.lines.proofs.Parts.{then}
 use borrow.Author.Needs.{needs}
 use Rattle.shown.proofs.words.lay_date.Statement.{statement}
 use Rattle.shown.proofs.words.lay_date.Tie as tie

@@ -2,8 +2,8 @@
 use Prim.Native.Nat.{_+_}
 use native.Mathlib.Omega.{arith}
 use denote.Ref.{now}
-use Rattle.listing.specs.Lines.{spaced, u32Field}
-use Rattle.listing.proofs.Parts.{then}
+use Rattle.lines.specs.Lines.{spaced, u32Field}
+use Rattle.lines.proofs.Parts.{then}
 use Rattle.shown.specs.Shown.{datedLine}
 use borrow.Author.Needs.{needs}
 use Rattle.shown.proofs.words.lay_dated.Statement.{statement}

@@ -3,7 +3,7 @@ use Prim.Native.Nat.{_+_}
 use native.Mathlib.Omega.{arith}
 use denote.Ref.{now}
 use Rattle.shown.specs.Shown.{dayShown}
-use Rattle.listing.proofs.Parts.{then, one-byte}
+use Rattle.lines.proofs.Parts.{then, one-byte}
 use Rattle.shown.proofs.Few.{few-date}
 use borrow.Author.Needs.{needs}
 use Rattle.shown.proofs.words.lay_day.Statement.{statement}

@@ -4,8 +4,8 @@ use mathlib.Core.Path.{sym, _∙_}
 use native.Mathlib.Omega.{arith}
 use denote.Ref.{now}
 use Rattle.shown.specs.Shown.{minuteShown}
-use Rattle.listing.specs.Lines.{u32Field}
-use Rattle.listing.proofs.Parts.{then, one-byte, within}
+use Rattle.lines.specs.Lines.{u32Field}
+use Rattle.lines.proofs.Parts.{then, one-byte, within}
 use Rattle.shown.proofs.Few.{few-shown}
 use borrow.Author.Needs.{needs}
 use Rattle.shown.proofs.words.lay_minute.Statement.{statement}

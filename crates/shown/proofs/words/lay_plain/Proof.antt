@@ -1,7 +1,7 @@
 -- The table is that of all pairs.
 use mathlib.Core.Path.{refl}
 use Rattle.numbers.specs.Column.{column}
-use Rattle.listing.specs.Inner.{digitPairs}
+use Rattle.lines.specs.Inner.{digitPairs}
 use borrow.Author.Needs.{needs}
 use Rattle.shown.proofs.words.lay_plain.Statement.{statement}
 use Rattle.shown.proofs.words.lay_plain.Tie as tie

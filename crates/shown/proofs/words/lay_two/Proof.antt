@@ -2,8 +2,8 @@
 use Prim.Native.Nat.{_+_, _/_}
 use native.Mathlib.Omega.{arith}
 use denote.Ref.{now}
-use Rattle.listing.specs.Lines.{digit}
-use Rattle.listing.proofs.Parts.{then, one-byte, lays}
+use Rattle.lines.specs.Lines.{digit}
+use Rattle.lines.proofs.Parts.{then, one-byte, lays}
 use borrow.Author.Needs.{needs}
 use Rattle.shown.proofs.words.lay_two.Statement.{statement}
 use Rattle.shown.proofs.words.lay_two.Tie as tie

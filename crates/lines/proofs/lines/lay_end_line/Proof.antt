@@ -1,0 +1,56 @@
+-- `lay_end_line` meets its contract: its parts stand one behind another.
+use Prim.Native.Nat.{_+_}
+use mathlib.Core.Path.{refl}
+use native.Mathlib.Omega.{arith}
+use Rattle.numbers.specs.Column.{column}
+use Rattle.lines.specs.Inner.{digitPairs}
+use denote.Ref.{now}
+use Rattle.lines.specs.Lines.{spaced, line, endLine, u32Field}
+use Rattle.lines.proofs.Parts.{then}
+use borrow.Author.Needs.{needs}
+use Rattle.lines.proofs.lines.lay_end_line.Statement.{statement}
+use Rattle.lines.proofs.lines.lay_end_line.Tie as tie
+
+slice-aggregate-lay-word : tie.Need-slice-aggregate-lay-word
+slice-aggregate-lay-word c = search needs
+
+lay-word-requires : tie.Need-lay-word-requires
+lay-word-requires c κs = search needs
+
+slice-aggregate-lay-u32-field : tie.Need-slice-aggregate-lay-u32-field
+slice-aggregate-lay-u32-field c = search needs
+
+lay-u32-field-requires : tie.Need-lay-u32-field-requires
+unfolding digitPairs column
+lay-u32-field-requires c κs = (search needs, refl)
+
+lay-feed-requires : tie.Need-lay-feed-requires
+lay-feed-requires c κs = search needs
+
+same-length : tie.Need-same-length
+same-length c = search needs
+
+returns : tie.Need-returns
+unfolding endLine line spaced
+returns c =
+    let feed = c .before .before in
+    let counted = feed .before .before .before .before in
+    let word = counted .before .before .before .before .before in
+    let s = word .before .before .before .before in
+    let a = s .args in
+    let out = now (a .out) in
+    let i = a .at in
+    let q1 = then out i 3 u32Field (word .lay-word .result) (counted .lay-u32-field .result) (omega (arith, s .pre)) (word .lay-word .ensures) (counted .lay-u32-field .ensures) in
+    then out i (3 + u32Field) 1 (counted .lay-u32-field .result) (feed .lay-feed .result) (omega (arith, s .pre)) q1 (feed .lay-feed .ensures)
+
+pub lay-end-line-spec : {M : Type 1} → statement M
+lay-end-line-spec =
+    tie.close
+    (tie.spec
+    slice-aggregate-lay-word
+    lay-word-requires
+    slice-aggregate-lay-u32-field
+    lay-u32-field-requires
+    lay-feed-requires
+    same-length
+    returns)

@@ -1,0 +1,3 @@
+-- The lines of the day list.
+pub mod Lines
+pub mod Inner
