@@ -3,7 +3,7 @@ use crate::input::least;
 use crate::told::tell_person;
 use libc::STDERR_FILENO;
 use libc::STDOUT_FILENO;
-use text::spot::Spot;
+use making::spot::Spot;
 
 // The day is written whole; refused by a number at a line, and what of the line; or what could not be done.
 pub enum Outcome {

@@ -1,17 +1,17 @@
 // What a refusal says to a person, on the line after its number.
 use crate::input::least;
 use libc::STDERR_FILENO;
+use making::spot::LONGEST_SHOWN;
+use making::spot::Name;
+use making::spot::Spot;
+use making::spot::Told;
+use making::spot::day_told;
+use making::spot::group_told;
+use making::spot::name_of;
+use making::spot::show;
+use making::spot::unit_told;
 use numbers::signed::magnitude;
 use text::line::mark_length;
-use text::spot::LONGEST_SHOWN;
-use text::spot::Name;
-use text::spot::Spot;
-use text::spot::Told;
-use text::spot::day_told;
-use text::spot::group_told;
-use text::spot::name_of;
-use text::spot::show;
-use text::spot::unit_told;
 
 fn say(bytes: &[u8]) {
     io::write_all(STDERR_FILENO, bytes);

@@ -7,11 +7,11 @@ use crate::input::least;
 use crate::input::next_line;
 use crate::outcome::Outcome;
 use crate::outcome::written;
+use making::making::Made;
+use making::making::Making;
+use making::making::ROOM;
+use making::spot::Spot;
 use text::line::line_in;
-use text::making::Made;
-use text::making::Making;
-use text::making::ROOM;
-use text::spot::Spot;
 
 // Where the reading and the making stand, and how many bytes of the output wait to be written; or how the run ended.
 enum Step {

@@ -5,7 +5,7 @@ ghost use Prim.Native.Nat.{_≤_};
 ghost use lib.Dec.{eqb};
 ghost use lib.ListN.{length};
 ghost use Rattle.text.specs.Line.{same, dayOf, groupOf, unitOf, endOf, fieldsOf, recordOf, uncommented, bareLength, bareOf, markLength, lineOf, listedFields, listedOf};
-use crate::fields::Field;
+pub use crate::fields::Field;
 use crate::fields::day_at;
 use crate::fields::field_at;
 use crate::fields::i32_at;

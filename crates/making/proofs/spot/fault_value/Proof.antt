@@ -1,0 +1,126 @@
+-- Each fault by its field; a number of fewer bits is itself in 32.
+use Prim.Native.Nat.{_^_, _<_}
+use native.Mathlib.Omega.{arith}
+use mir.Facts.{toZ-pos}
+use mir.Val.{hbits}
+use mir.Syntax.{w32}
+use borrow.Author.Needs.{needs}
+use Rattle.making.proofs.spot.fault_value.Statement.{statement}
+use Rattle.making.proofs.spot.fault_value.Tie as tie
+
+enum-told : tie.Need-enum-told
+enum-told c = search needs
+
+cast-result : tie.Need-cast-result
+cast-result c = search needs
+
+enum-told-2 : tie.Need-enum-told-2
+enum-told-2 c = search needs
+
+cast-result-2 : tie.Need-cast-result-2
+cast-result-2 c = search needs
+
+enum-told-3 : tie.Need-enum-told-3
+enum-told-3 c = search needs
+
+cast-result-3 : tie.Need-cast-result-3
+cast-result-3 c = search needs
+
+enum-told-4 : tie.Need-enum-told-4
+enum-told-4 c = search needs
+
+cast-result-4 : tie.Need-cast-result-4
+cast-result-4 c = search needs
+
+enum-told-5 : tie.Need-enum-told-5
+enum-told-5 c = search needs
+
+enum-told-6 : tie.Need-enum-told-6
+enum-told-6 c = search needs
+
+enum-told-7 : tie.Need-enum-told-7
+enum-told-7 c = search needs
+
+enum-told-8 : tie.Need-enum-told-8
+enum-told-8 c = search needs
+
+enum-told-9 : tie.Need-enum-told-9
+enum-told-9 c = search needs
+
+enum-told-10 : tie.Need-enum-told-10
+enum-told-10 c = search needs
+
+enum-told-11 : tie.Need-enum-told-11
+enum-told-11 c = search needs
+
+returns : tie.Need-returns
+returns c =
+    let h : c .before .before .before .args .u .number < 2 ^ hbits w32 = omega arith in
+    rw (c .before .enum-told .given .1) (simp (toZ-pos w32))
+
+returns-2 : tie.Need-returns-2
+returns-2 c =
+    let h : c .before .before .before .args .u .class < 2 ^ hbits w32 = omega arith in
+    rw (c .before .enum-told2 .given .1) (simp (toZ-pos w32))
+
+returns-3 : tie.Need-returns-3
+returns-3 c =
+    let h : c .before .before .before .args .u .coincide < 2 ^ hbits w32 = omega arith in
+    rw (c .before .enum-told3 .given .1) (simp (toZ-pos w32))
+
+returns-4 : tie.Need-returns-4
+returns-4 c =
+    let h : c .before .before .before .args .u .nominated < 2 ^ hbits w32 = omega arith in
+    rw (c .before .enum-told4 .given .1) (simp (toZ-pos w32))
+
+returns-5 : tie.Need-returns-5
+returns-5 c = rw (c .before .enum-told5 .given .1) (search needs)
+
+returns-6 : tie.Need-returns-6
+returns-6 c = rw (c .before .enum-told6 .given .1) (search needs)
+
+returns-7 : tie.Need-returns-7
+returns-7 c = rw (c .before .enum-told7 .given .1) (search needs)
+
+returns-8 : tie.Need-returns-8
+returns-8 c = rw (c .before .enum-told8 .given .1) (search needs)
+
+returns-9 : tie.Need-returns-9
+returns-9 c = rw (c .before .enum-told9 .given .1) (search needs)
+
+returns-10 : tie.Need-returns-10
+returns-10 c = rw (c .before .enum-told10 .given .1) (search needs)
+
+returns-11 : tie.Need-returns-11
+returns-11 c = rw (c .enum-told11 .given .1)
+
+pub fault-value-spec : {M : Type 1} → statement M
+fault-value-spec =
+    tie.close
+    (tie.spec
+    enum-told
+    cast-result
+    enum-told-2
+    cast-result-2
+    enum-told-3
+    cast-result-3
+    enum-told-4
+    cast-result-4
+    enum-told-5
+    enum-told-6
+    enum-told-7
+    enum-told-8
+    enum-told-9
+    enum-told-10
+    enum-told-11
+    returns
+    returns-2
+    returns-3
+    returns-4
+    returns-5
+    returns-6
+    returns-7
+    returns-8
+    returns-9
+    returns-10
+    returns-11)

@@ -1,0 +1,33 @@
+-- Each index by its test.
+use borrow.Author.Tests.{eq-eqb, ne-eqb}
+use Rattle.making.specs.Spot.{unitName}
+use borrow.Author.Needs.{needs}
+use Rattle.making.proofs.spot.unit_name.Statement.{statement}
+use Rattle.making.proofs.spot.unit_name.Tie as tie
+
+returns : tie.Need-returns
+unfolding unitName
+returns c = rw (eq-eqb _ _ (c .if1 .taken))
+
+returns-2 : tie.Need-returns-2
+unfolding unitName
+returns-2 c = rw (ne-eqb _ _ (c .before .if1 .left), eq-eqb _ _ (c .if2 .taken))
+
+returns-3 : tie.Need-returns-3
+unfolding unitName
+returns-3 c = rw (ne-eqb _ _ (c .before .before .if1 .left), ne-eqb _ _ (c .before .if2 .left), eq-eqb _ _ (c .if3 .taken))
+
+returns-4 : tie.Need-returns-4
+unfolding unitName
+returns-4 c = rw (ne-eqb _ _ (c .before .before .before .if1 .left), ne-eqb _ _ (c .before .before .if2 .left), ne-eqb _ _ (c .before .if3 .left), eq-eqb _ _ (c .if4 .taken))
+
+quantity-name-requires : tie.Need-quantity-name-requires
+quantity-name-requires c κs = search needs
+
+returns-5 : tie.Need-returns-5
+unfolding unitName
+returns-5 c = rw (ne-eqb _ _ (c .before .before .before .before .if1 .left), ne-eqb _ _ (c .before .before .before .if2 .left), ne-eqb _ _ (c .before .before .if3 .left), ne-eqb _ _ (c .before .if4 .left)) (c .quantity-name .ensures)
+
+pub unit-name-spec : {M : Type 1} → statement M
+unit-name-spec =
+    tie.close (tie.spec returns returns-2 returns-3 returns-4 quantity-name-requires returns-5)
