@@ -1,0 +1,2 @@
+// What mkday says of a refusal to a person, on standard error.
+pub mod told;
