@@ -36,10 +36,6 @@ class Function:
     def promises(self):
         return "ensures {" in self.clauses
 
-    def answers(self):
-        """Whether it gives a reply, or is lent memory to write: where it does neither, there is nothing to promise but that it is safe."""
-        return "->" in self.clauses or "&mut" in self.clauses
-
 
 def functions(crate):
     """Every function of a crate, in order of its sources."""

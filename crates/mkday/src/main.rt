@@ -1,6 +1,7 @@
 // Makes the house records of a day from its text, as docs/TEXT.md says.
 mod input;
 mod outcome;
+mod told;
 mod turns;
 
 fn main() {

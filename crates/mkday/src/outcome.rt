@@ -1,9 +1,9 @@
 // How a run ends.
 use crate::input::least;
+use crate::told::tell_person;
 use libc::STDERR_FILENO;
 use libc::STDOUT_FILENO;
 use making::spot::Spot;
-use telling::told::tell_person;
 
 // The day is written whole; refused by a number at a line, and what of the line; or what could not be done.
 pub enum Outcome {

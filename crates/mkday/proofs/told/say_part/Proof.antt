@@ -3,8 +3,8 @@ use mathlib.Core.Path.{sym}
 use lib.Seq.{length-take-le}
 use native.Mathlib.Omega.{arith}
 use borrow.Author.Needs.{needs}
-use Rattle.telling.proofs.told.say_part.Statement.{statement}
-use Rattle.telling.proofs.told.say_part.Tie as tie
+use Rattle.mkday.proofs.told.say_part.Statement.{statement}
+use Rattle.mkday.proofs.told.say_part.Tie as tie
 
 least-requires : tie.Need-least-requires
 least-requires c κs = search needs

@@ -1,5 +1,5 @@
 // What a refusal says to a person, on the line after its number.
-ghost use Prim.Native.Nat.{_≤_};
+use crate::input::least;
 use libc::STDERR_FILENO;
 use making::spot::LONGEST_SHOWN;
 use making::spot::Name;
@@ -12,13 +12,6 @@ use making::spot::show;
 use making::spot::unit_told;
 use numbers::signed::magnitude;
 use text::line::mark_length;
-
-// The smaller of two lengths.
-fn least(a: usize, b: usize) -> usize
-    ensures { λ r. ⌜ (r ≤ a) × (r ≤ b) ⌝ }
-{
-    if a < b { a } else { b }
-}
 
 fn say(bytes: &[u8]) {
     io::write_all(STDERR_FILENO, bytes);
