@@ -45,13 +45,28 @@ static uint32_t number_at(const uint8_t *at, int bytes)
     return number;
 }
 
+/* Whether a refusal speaks of one unit. */
+static int is_of_a_unit(int32_t number)
+{
+    switch (number) {
+    /* tests/refusals */
+    case FLEHWELLA_UNIT_NUMBER: return 1;
+    case FLEHWELLA_FLAG: return 1;
+    case FLEHWELLA_RANGE: return 1;
+    case FLEHWELLA_CROSSED: return 1;
+    case FLEHWELLA_MARGIN_AGE: return 1;
+    /* */
+    default: return 0;
+    }
+}
+
 /* The number of the unit that a refusal of the block speaks of, or -1: the last of the shortest beginning of the block which is
  * refused alike. It leaves the block with another unit count. */
 static long unit_of(const uint8_t *day, uint8_t *block, int32_t reply)
 {
     uint8_t room[FLEHWELLA_RESULT_MAX];
     const int units = block[5];
-    if (reply > -FLEHWELLA_UNIT_NUMBER || reply < -FLEHWELLA_MARGIN_AGE || reply == -FLEHWELLA_POSITION_AGE)
+    if (!is_of_a_unit(-reply))
         return -1;
     for (block[5] = 1; block[5] < units; block[5]++)
         if (flehwella_check(day, FLEHWELLA_DAY_LENGTH, block, FLEHWELLA_BLOCK_LENGTH(block[5]), room, sizeof room) == reply)

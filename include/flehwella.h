@@ -44,7 +44,7 @@ extern "C" {
 #define FLEHWELLA_RESULT_MAX 1307
 
 /* tests/refusals */
-/* Every refusal of the house, by its number. flehwella_check gives 1 to 12. */
+/* Every refusal of the house, by its number. flehwella_check gives 1 to 12, of which 6 to 9 and 11 speak of one unit. */
 enum flehwella_refusal {
     /* the record is cut short */
     FLEHWELLA_CUT_SHORT = 1,
@@ -88,8 +88,8 @@ enum flehwella_refusal {
  * Gives back the length written, FLEHWELLA_RESULT_LENGTH(units), or minus the number of a refusal; never 0.
  *
  * The day is what was refused where day_length is below FLEHWELLA_DAY_LENGTH, or where the same day with a block_length of 0
- * gives another reply than -FLEHWELLA_CUT_SHORT; else it is the block. A refusal from 6 to 9, or 11, speaks of one unit: of
- * the k-th, for the least k with which the block cut to its first k units (its byte 5, the unit count, is k, and its length
+ * gives another reply than -FLEHWELLA_CUT_SHORT; else it is the block. A refusal that speaks of one unit (above) speaks of the
+ * k-th, for the least k with which the block cut to its first k units (its byte 5, the unit count, is k, and its length
  * FLEHWELLA_BLOCK_LENGTH(k)) is refused by the same number.
  *
  * Accepted: the first bytes of the room, as many as the reply says, are the result, and the room beyond them is untouched.

@@ -22,7 +22,7 @@ use Rattle.finding.specs.declared.named.Held.{Held}
 use Rattle.finding.specs.declared.named.Held.the-variants as H
 use Rattle.finding.specs.Naming.{keyIn, unitLayout, ageHeld, toldOf, namedOf}
 
--- 6 to 9 and 11
+-- the refusals that speak of one unit: those that docs/refusals.txt marks `unit`, to which tests/refusals holds this table
 abbrev pub ofUnit : Why → Bool
 ofUnit W.CutShort = false
 ofUnit W.Kind = false
