@@ -12,7 +12,7 @@ use Rattle.blocks.specs.Checking.{blockUnitsOf}
 use Rattle.day.specs.declared.value.Day.{Day}
 use Rattle.day.specs.Days.{possible}
 
--- the group's fields, 4, 5, 13, 10, and then the units
+-- the group's fields, in their order, and then the units
 unfoldable pub blockFieldsOf : Day → List ℕ → Reply Block
 blockFieldsOf day s =
     next (groupFieldsOf s (day .«record») (day .last)) λ group.

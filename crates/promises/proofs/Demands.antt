@@ -51,7 +51,7 @@ pub every-set-of-columns : (g : Group) (first second third : List ℤ) (r q : Ju
     → Judges g first second third (judgement r) x1 x2 x3 → Judges g first second third (judgement q) y1 y2 y3 → SameOutcome r q x1 y1 x2 y2 x3 y3
 every-set-of-columns = judge-unique
 
--- The C call gives a length from 47 to 1,307 or minus 1 to minus 12.
+-- The C call gives the length of a result or minus the number of a refusal, each one that its header says.
 pub every-call : (day block room : List ℕ) {z : ℤ} {exit : List ℕ} → Checks day block room z exit → Replied z
 every-call = reply-in
 

@@ -136,11 +136,11 @@ markFaults u floor =
     (check (eqb (u .nominated) 1 || eqZ (u .n .0) (pos 0)) F.NotNominated
     Fine))))
 
--- 6, 7, 8, 9: what a unit's values can have wrong
+-- what a unit's values can have wrong
 unfoldable pub valueFaults : UnitRecord → ℕ → Checked
 valueFaults u floor = also (markFaults u floor) (amountChecks (u .n .0) (u .pc .0) (marginsOf u))
 
--- the same, and then 11
+-- the same, and then the age of its margins
 unfoldable pub unitFaults : UnitRecord → ℕ → ℕ → ℕ → Checked
 unitFaults u floor run limit = also (valueFaults u floor) (check (aged run (u .made) limit) F.Age Fine)
 

@@ -80,6 +80,6 @@ unfoldable pub floorAt : Columns → ℕ → ℕ
 floorAt c zero = 0
 floorAt c (suc i) = rowOf c i .number + 1
 
--- 6, 7, 8, 9 of the unit of an index
+-- the first fault of the unit of an index
 abbrev pub rowChecks : Columns → ℕ → Checked
 rowChecks c i = valueFaults (rowOf c i) (floorAt c i)

@@ -35,13 +35,13 @@ pub record Values (g : GroupRecord) (c : Columns) (s : List ℕ) : Type 0 where
   pub group : groupAt s 0 ≡ g
   pub unit : (i : ℕ) → i < count c → unitIn s i ≡ rowOf c i
 
--- a day takes the group next: 4, 13, 10
+-- a day takes the group next: what the group's checks ask of the day
 pub record Joins (g : GroupRecord) (day : DayRecord) (last : Last) : Type 0 where
   pub early : g .quarter < day .quarters
   pub above : follows last (keyOf g) ≡ true
   pub fresh : aged (day .run) (g .made) (day .«position_limit») ≡ true
 
--- the margins of each unit are of an age that the day takes: 11
+-- the margins of each unit are of an age that the day takes
 pub record Fresh (c : Columns) (day : DayRecord) : Type 0 where
   pub each : (i : ℕ) → i < count c → aged (day .run) (rowOf c i .made) (day .«margin_limit») ≡ true
 

@@ -56,7 +56,7 @@ unitsEnd c (suc i) = unitsEnd c i + lengthOf (rowOf c i)
 abbrev pub blockLength : Columns → ℕ
 blockLength c = unitsEnd c (count c)
 
--- each unit: 6, 7, 8, 9 at its index; the block's length where all pass
+-- each unit's faults, in their order and at its index; the block's length where all pass
 unfoldable pub unitsChecked : Columns → Reply ℕ
 unitsChecked c = next (firstFault (rowChecks c) 0 (count c)) λ _. is (blockLength c)
 

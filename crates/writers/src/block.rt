@@ -26,7 +26,7 @@ fn are_same(number: usize, others: &[usize]) -> bool
     true
 }
 
-// The group's own fields: 4, 5.
+// The group's own fields, in their order.
 fn check_group(quarter: u8, units: usize) -> Answer
     ensures { λ r. ⌜ answer r ≡ groupChecks quarter units ⌝ }
 {
@@ -39,7 +39,7 @@ fn check_group(quarter: u8, units: usize) -> Answer
     Answer::Is(units)
 }
 
-// Everything that a block is refused for: 15, 4, 5, each unit's faults, 12; its length where it passes.
+// Everything that a block is refused for, in the writer's order; its length where it passes.
 fn check_block(
     quarter: u8,
     number: &[u16],
@@ -92,7 +92,7 @@ fn check_block(
     u
 }
 
-// A block in the room's first bytes: 15, 4, 5, per unit 6, 7, 8, 9 at its index, then 12.
+// A block in the room's first bytes, or the first refusal in the writer's order, a unit's at its index.
 pub fn write_block(
     brp: u16,
     zone: u8,

@@ -85,7 +85,7 @@ pub fn lay_units(
     }
 }
 
-// The faults of the units: 6, 7, 8, 9, the first at its unit's index; where their records end, if there is none.
+// The faults of the units, the first at its unit's index; where their records end, if there is none.
 pub fn check_units(
     number: &[u16],
     class: &[u8],

@@ -8,7 +8,7 @@ use records::end::EndRecord;
 use terms::refusal::Answer;
 use terms::refusal::Why;
 
-// A day record in the room's first bytes: 3, 12.
+// A day record in the room's first bytes, where its quarters and the room pass.
 pub fn write_day(d: DayRecord, room: &mut [u8]) -> Answer
     ensures { λ r. ⌜ DayWritten d (now (room .entry)) r (now (room .exit)) ⌝ }
 {

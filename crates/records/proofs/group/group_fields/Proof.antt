@@ -1,4 +1,4 @@
--- A group record's fields: 4, 5, 13 and 10 are handed upward in turn, and else the values are those of the layout.
+-- A group record's fields: what each is refused for is handed upward in turn, and else the values are those of the layout.
 use mathlib.Core.Path.{sym, ap, _∙_}
 use Rattle.records.specs.Answers.{byteReply, keyReply, numberReply}
 use Rattle.records.specs.Layouts.{groupAt}

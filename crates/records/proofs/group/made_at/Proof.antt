@@ -1,4 +1,4 @@
--- The answer for the minute of a group's positions is 10's test: by what `is_aged` told.
+-- The answer for the minute of a group's positions is the test of their age: by what `is_aged` told.
 use mathlib.Core.Path.{sym, _∙_}
 use Rattle.terms.specs.Reply.{need}
 use Rattle.records.specs.Layouts.{groupAt}
