@@ -1,11 +1,11 @@
--- What the header says of the C call: each number in its reply is one of 1 to 12, and an accepted call is the offer of the block to the day just opened, so that the demands on an offer carry over.
+-- What the header says of the C call: each number in its reply is one of those listed, and an accepted call is the offer of the block to the day just opened, so that the demands on an offer carry over.
 use Prim.Native.Nat.{ℕ, zero, suc, _+_, _≤_, _<_}
 use mathlib.Core.Path.{_≡_, refl, sym, ap, _∙_}
-use mathlib.Core.Bool.{Bool, true, false, _&&_}
-use mathlib.Core.List.{List, _++_}
+use mathlib.Core.Bool.{Bool, true, false, _||_, false≢true}
+use mathlib.Core.List.{List, [], _∷_, _++_, List·Memᴰ, List·Memᴰ·head, List·Memᴰ·tail}
 use native.Mathlib.Omega.{arith}
-use borrow.Author.Tests.{leb-true}
-use lib.Dec.{leb, ltb}
+use borrow.Author.Tests.{leb-true, eqb-true}
+use lib.Dec.{leb, ltb, eqb}
 use lib.IntN.{ℤ, pos, negℤ}
 use lib.ListN.{length, drop}
 use Rattle.numbers.specs.Bytes.{byteAt}
@@ -24,6 +24,7 @@ use Rattle.group.specs.Demand3.{Demand3}
 use Rattle.records.specs.declared.day.DayRecord.{DayRecord}
 use Rattle.records.specs.declared.key.Last.the-variants.{Nothing}
 use Rattle.records.specs.Layouts.{groupResultAt, unitResultAt}
+use Rattle.records.specs.Longest.{longestResult}
 use Rattle.records.specs.Reading.{permitted, headOf, dayFieldsOf, dayOf, groupFieldsOf, unitHeadOf, unitEnd, unitFieldsOf, unitOf, unitsOf}
 use Rattle.records.proofs.Read.{day-read, group-passed}
 use Rattle.writers.specs.Results.{resultLength}
@@ -43,13 +44,30 @@ use Rattle.day.proofs.Outcomes.{TakenBlock, taken-block}
 use Rattle.day.proofs.BlockAlone.{alone-offered, alone-block}
 use Rattle.day.proofs.Demands.{result-bytes, group-told, unit-told, block-fair}
 use Rattle.desk.specs.Desk.{firstOf, callOf, given, Checks}
-use Rattle.desk.specs.Header.{Replied, CallTaken}
+use Rattle.desk.specs.Header.{callNumbers, Replied, CallTaken}
 use Rattle.desk.specs.Header as H
 use Rattle.desk.proofs.First.{first-alone}
 
 -- ---- the numbers
+-- whether a number is one of those listed, worked out for each number that a check has
+abbrev isOf : List ℕ → ℕ → Bool
+isOf [] n = false
+isOf (m ∷ rest) n = eqb n m || isOf rest n
+
+is-of : (l : List ℕ) (n : ℕ) → isOf l n ≡ true → List·Memᴰ n l
+is-of [] n e = absurd (false≢true e)
+is-of (m ∷ rest) n e = go (eqb n m) refl e (is-of rest n)
+  where
+    go : (t : Bool) → eqb n m ≡ t → t || isOf rest n ≡ true → (isOf rest n ≡ true → List·Memᴰ n rest) → List·Memᴰ n (m ∷ rest)
+    go true same k further = List·Memᴰ·head (eqb-true n m same)
+    go false other k further = List·Memᴰ·tail (further k)
+
 abbrev early : ℕ → Bool
-early n = leb 1 n && leb n 12
+early n = isOf callNumbers n
+
+above-zero : (n : ℕ) → early n ≡ true → 1 ≤ n
+above-zero zero e = absurd (false≢true e)
+above-zero (suc n) e = omega arith
 
 data Early {A : Type 0} : Reply A → Type 0 where
   value : (a : A) → Early (is a)
@@ -143,7 +161,7 @@ module _ (day s : List ℕ) (room : ℕ) {step : Step} (e : callOf day s room �
   offered : offerOf (opened (parts .0)) s room ≡ is step
   offered = sym (alone-offered (opened (parts .0)) s block-is room) ∙ parts .1 .1
 
-  written-in : (47 ≤ step .written) × (step .written ≤ 1307)
+  written-in : (resultLength 1 ≤ step .written) × (step .written ≤ longestResult)
   unfolding blockFieldsOf
   written-in =
       let d = parts .0 in
@@ -153,7 +171,7 @@ module _ (day s : List ℕ) (room : ℕ) {step : Step} (e : callOf day s room �
       let some = leb-true 1 (blockCount s) (and-both (leb 1 (blockCount s)) (leb (blockCount s) mostUnits) (g .counted) .0) in
       rw (t .value) (omega arith, omega arith)
 
--- The reply is a length from 47 to 1,307 or minus 1 to minus 12, never 0.
+-- The reply is a length, from that of one unit's result to the longest, or minus one of the numbers listed, never 0.
 pub reply-in : (day block entry : List ℕ) {z : ℤ} {exit : List ℕ} → Checks day block entry z exit → Replied z
 unfolding given
 reply-in day block entry c = rw (c .replied) (go (callOf day block (length entry)) refl (early-call day block (length entry)))
@@ -162,9 +180,7 @@ reply-in day block entry c = rw (c .replied) (go (callOf day block (length entry
     go (is step) e h =
         let w = written-in day block (length entry) e in
         H.length (step .written) (w .0) (w .1)
-    go (refused n p) e (number m q k) =
-        let b = and-both (leb 1 m) (leb m 12) k in
-        H.refusal m (leb-true 1 m (b .0)) (leb-true m 12 (b .1))
+    go (refused n p) e (number m q k) = H.refusal m (is-of callNumbers m k)
 
 -- An accepted call is the offer of the block to the day just opened, taken.
 pub call-taken : (day block entry : List ℕ) (n : ℕ) {exit : List ℕ} → Checks day block entry (pos n) exit → CallTaken day block entry n exit
@@ -185,7 +201,7 @@ call-taken day block entry n {exit} c = go (callOf day block (length entry)) ref
           told = omega zarith;
         }
     go (refused n′ p′) e (number m p k) w r =
-        let b = leb-true 1 m (and-both (leb 1 m) (leb m 12) k .0) in
+        let b = above-zero m k in
         absurd (omega (zarith, neg (pos m)))
 
 -- A refused call leaves the room as it was.
