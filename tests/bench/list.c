@@ -11,7 +11,7 @@
 int32_t best_check(const uint8_t *day, size_t day_length, const uint8_t *block, size_t block_length, uint8_t *room, size_t room_length);
 
 /* LINES is more than the lines of one block's result take. */
-enum { BUFFER = 1 << 18, LINES = 1 << 13, COUNT = 6, FIGURES = 7, GROUP = 27, UNIT = 20, END = 5 };
+enum { BUFFER = 1 << 18, LINES = 1 << 13, COUNT = 6, FIGURES = 7, GROUP = FLEHWELLA_GROUP_RESULT_LENGTH, UNIT = FLEHWELLA_UNIT_RESULT_LENGTH, END = 5 };
 enum state { FRESH, OPEN, CLOSED };
 
 static uint8_t in[BUFFER], out[BUFFER + LINES];
