@@ -23,7 +23,8 @@ use Rattle.text.specs.declared.line.Line.{Line}
 use Rattle.text.specs.declared.line.Line.the-variants.{Day, Group, Unit, End, Passed, TooLong, Not}
 use Rattle.text.specs.declared.fields.Field.{Field}
 use Rattle.making.specs.declared.spot.Spot.{Spot}
-use Rattle.making.specs.declared.spot.Spot.the-variants.{Nowhere, Came, Word, OfDay, OfGroup, OfUnit}
+use Rattle.making.specs.declared.spot.Spot.the-variants.{Nowhere, Came, Word}
+use Rattle.making.specs.Spot.{quartersSpot, quarterSpot, countSpot, faultSpot}
 use Rattle.making.specs.declared.making.Found.{Found}
 use Rattle.making.specs.declared.making.Found.the-variants.{Nothing, Fault}
 use Rattle.making.specs.declared.making.Block.{Block}
@@ -52,7 +53,7 @@ writtenMade (refused number place) next line spot = Refused number line spot
 
 unfoldable pub dayTurn : DayRecord → ℕ → List ℕ → Turn
 dayTurn d line room =
-    turn (writtenMade (writeDayOf d (length room)) Between line (OfDay d)) (laid (writeDayOf d (length room)) (dayBytes d) room)
+    turn (writtenMade (writeDayOf d (length room)) Between line (quartersSpot d)) (laid (writeDayOf d (length room)) (dayBytes d) room)
 
 unfoldable pub endTurn : EndRecord → ℕ → List ℕ → Turn
 endTurn e line room =
@@ -60,7 +61,7 @@ endTurn e line room =
 
 -- ---- blocks: 5 at once; 4 and the units' faults, the first of them, when all lines are read
 abbrev pub openFound : GroupRecord → ℕ → Found
-openFound g line = pick (ltb (g .quarter) 100) Nothing (Fault 4 line (OfGroup g))
+openFound g line = pick (ltb (g .quarter) 100) Nothing (Fault 4 line (quarterSpot g))
 
 unfoldable pub groupTurn : GroupRecord → ℕ → List ℕ → Turn
 groupTurn g line room =
@@ -70,12 +71,12 @@ groupTurn g line room =
     (On (Within (record { left = g .count; here = groupLength; floor = 0; found = openFound g line })))
     (laidAt room 0 (groupBytes g)))
     (turn (Refused 12 line Nowhere) room))
-    (turn (Refused 5 line (OfGroup g)) room)
+    (turn (Refused 5 line (countSpot g)) room)
 
 -- the fault of a unit, unless one was found before
 abbrev pub foundOf : Found → Checked → UnitRecord → ℕ → Found
 foundOf Nothing Fine u line = Nothing
-foundOf Nothing (Faulty fault) u line = Fault (numberOf (whyOf fault)) line (OfUnit u fault)
+foundOf Nothing (Faulty fault) u line = Fault (numberOf (whyOf fault)) line (faultSpot u fault)
 foundOf (Fault number first spot) checked u line = Fault number first spot
 
 abbrev pub wholeMade : Found → ℕ → Made

@@ -1,11 +1,11 @@
--- What of a line was refused, by the names of docs/TEXT.md: each field's, and of a value that the writers refuse its field and the value.
+-- What of a line was refused: of a value that the writers refuse its field and the value, of a word what is shown.
 use Prim.Native.Nat.{ℕ, min}
 use mathlib.Core.Path.{_≡_}
 use mathlib.Core.Bool.{_&&_}
 use mathlib.Core.List.{List, _++_}
-use lib.Dec.{eqb, leb}
+use lib.Dec.{leb}
 use lib.ListN.{length, getD, drop}
-use lib.IntN.{ℤ, pos}
+use lib.IntN.{pos}
 use Rattle.numbers.specs.Choice.{pick}
 use Rattle.numbers.specs.Column.{column}
 use Rattle.terms.specs.declared.refusal.Fault.{Fault}
@@ -13,101 +13,35 @@ use Rattle.terms.specs.declared.refusal.Fault.the-variants as F
 use Rattle.records.specs.declared.day.DayRecord.{DayRecord}
 use Rattle.records.specs.declared.group.GroupRecord.{GroupRecord}
 use Rattle.records.specs.declared.unit.UnitRecord.{UnitRecord}
-use Rattle.records.specs.Layouts.{dayKind, groupKind, unitKind, endKind}
-use Rattle.making.specs.declared.spot.Name.{Name}
-use Rattle.making.specs.declared.spot.Name.the-variants as N
-use Rattle.making.specs.declared.spot.Told.{Told}
+use Rattle.records.specs.Layouts.{dayKind, groupKind, unitKind}
+use Rattle.making.specs.declared.spot.Spot.{Spot}
+use Rattle.making.specs.declared.spot.Spot.the-variants.{Value}
 
--- ---- fields by their index; past the last there is one too many
-unfoldable pub dayName : ℕ → Name
-dayName index =
-    pick (eqb index 1) N.Day
-    (pick (eqb index 2) N.Quarters
-    (pick (eqb index 3) N.RunMinute
-    (pick (eqb index 4) N.PositionLimit
-    (pick (eqb index 5) N.MarginLimit
-    N.Extra))))
+-- ---- a value that the writers refuse: the record's kind, the field's index in the line, from 1 (docs/TEXT.md), and the value there
+-- 3 is told of a DAY's quarters
+abbrev pub quartersSpot : DayRecord → Spot
+quartersSpot d = Value dayKind 2 (pos (d .quarters))
 
-unfoldable pub groupName : ℕ → Name
-groupName index =
-    pick (eqb index 1) N.Brp
-    (pick (eqb index 2) N.Zone
-    (pick (eqb index 3) N.Quarter
-    (pick (eqb index 4) N.UnitCount
-    (pick (eqb index 5) N.PositionsMade
-    N.Extra))))
+-- 4 of a GROUP's quarter, 5 of its unit count
+abbrev pub quarterSpot : GroupRecord → Spot
+quarterSpot g = Value groupKind 3 (pos (g .quarter))
 
-unfoldable pub quantityName : ℕ → Name
-quantityName index =
-    pick (eqb index 5) N.N
-    (pick (eqb index 6) N.Pc
-    (pick (eqb index 7) N.StepDown
-    (pick (eqb index 8) N.StepUp
-    (pick (eqb index 9) N.MarginsMade
-    N.Extra))))
+abbrev pub countSpot : GroupRecord → Spot
+countSpot g = Value groupKind 4 (pos (g .count))
 
-unfoldable pub unitName : ℕ → Name
-unitName index =
-    pick (eqb index 1) N.Number
-    (pick (eqb index 2) N.Class
-    (pick (eqb index 3) N.Coincide
-    (pick (eqb index 4) N.Nominated
-    (quantityName index))))
-
-unfoldable pub endName : ℕ → Name
-endName index =
-    pick (eqb index 1) N.Groups
-    N.Extra
-
--- a field by the record's kind and its index; no record's is the word itself
-unfoldable pub nameOf : ℕ → ℕ → Name
-nameOf kind index =
-    pick (eqb kind dayKind) (dayName index)
-    (pick (eqb kind groupKind) (groupName index)
-    (pick (eqb kind unitKind) (unitName index)
-    (pick (eqb kind endKind) (endName index)
-    N.Word)))
-
--- ---- values: 3 is told of the quarters, 4 of the quarter, 5 of the unit count
-abbrev pub told : Name → ℤ → Told
-told name value = record { name = name; value = value }
-
-abbrev pub dayTold : DayRecord → Told
-dayTold d = told N.Quarters (pos (d .quarters))
-
-abbrev pub groupTold : GroupRecord → ℕ → Told
-groupTold g number = pick (eqb number 4) (told N.Quarter (pos (g .quarter))) (told N.UnitCount (pos (g .count)))
-
--- 6 to 9 by the unit's fault: N that is not 0 though not nominated, and of crossed margins M-
-abbrev pub faultName : Fault → Name
-faultName F.Number = N.Number
-faultName F.Class = N.Class
-faultName F.Coincide = N.Coincide
-faultName F.Nominated = N.Nominated
-faultName F.NotNominated = N.N
-faultName F.N = N.N
-faultName F.Pc = N.Pc
-faultName F.StepDown = N.StepDown
-faultName F.StepUp = N.StepUp
-faultName F.Crossed = N.StepDown
-faultName F.Age = N.MarginsMade
-
--- no unit of a text has a fault of age
-abbrev pub faultValue : UnitRecord → Fault → ℤ
-faultValue u F.Number = pos (u .number)
-faultValue u F.Class = pos (u .class)
-faultValue u F.Coincide = pos (u .coincide)
-faultValue u F.Nominated = pos (u .nominated)
-faultValue u F.NotNominated = u .n .0
-faultValue u F.N = u .n .0
-faultValue u F.Pc = u .pc .0
-faultValue u F.StepDown = u .«step_down»
-faultValue u F.StepUp = u .«step_up»
-faultValue u F.Crossed = u .«step_down»
-faultValue u F.Age = pos 0
-
-abbrev pub unitTold : UnitRecord → Fault → Told
-unitTold u fault = told (faultName fault) (faultValue u fault)
+-- 6 to 9 of the field of a UNIT's fault: N where it is not 0 though not nominated, M- of crossed margins; no unit of a text has a fault of age
+abbrev pub faultSpot : UnitRecord → Fault → Spot
+faultSpot u F.Number = Value unitKind 1 (pos (u .number))
+faultSpot u F.Class = Value unitKind 2 (pos (u .class))
+faultSpot u F.Coincide = Value unitKind 3 (pos (u .coincide))
+faultSpot u F.Nominated = Value unitKind 4 (pos (u .nominated))
+faultSpot u F.NotNominated = Value unitKind 5 (u .n .0)
+faultSpot u F.N = Value unitKind 5 (u .n .0)
+faultSpot u F.Pc = Value unitKind 6 (u .pc .0)
+faultSpot u F.StepDown = Value unitKind 7 (u .«step_down»)
+faultSpot u F.StepUp = Value unitKind 8 (u .«step_up»)
+faultSpot u F.Crossed = Value unitKind 7 (u .«step_down»)
+faultSpot u F.Age = Value unitKind 9 (pos 0)
 
 -- ---- the word as it was found, for a person to read: at most 40 bytes, and '?' for what is not printable
 abbrev pub shownByte : ℕ → ℕ

@@ -4,6 +4,7 @@ ghost use Prim.Native.Nat.{_+_};
 ghost use lib.Dec.{leb};
 ghost use Rattle.terms.specs.Refusals.{answer};
 ghost use Rattle.records.specs.Reading.{valueFaults};
+ghost use Rattle.making.specs.Spot.{faultSpot};
 ghost use Rattle.making.specs.Making.{writtenMade, dayTurn, endTurn, openFound, groupTurn, foundOf, wholeMade, unitTurn, unitNext, isDue, isOver, mayCome, wordOf, cameOf, lineTurn, turnOf, Turns};
 use crate::spot::Spot;
 use records::day::DayRecord;
@@ -13,6 +14,7 @@ use records::group::GroupRecord;
 use records::unit::UnitRecord;
 use terms::refusal::Answer;
 use terms::refusal::Checked;
+use terms::refusal::Fault;
 use text::line::Field;
 use text::line::Line;
 use writers::lay::lay_group;
@@ -53,6 +55,25 @@ pub enum Made {
     Refused(u8, u64, Spot),
 }
 
+// The field of a unit's fault, by its index in the line, docs/TEXT.md.
+fn fault_spot(u: UnitRecord, fault: Fault) -> Spot
+    ensures { λ r. ⌜ r ≡ faultSpot u fault ⌝ }
+{
+    match fault {
+        Fault::Number => Spot::Value(UnitRecord::KIND, 1, u.number as i32),
+        Fault::Class => Spot::Value(UnitRecord::KIND, 2, u.class as i32),
+        Fault::Coincide => Spot::Value(UnitRecord::KIND, 3, u.coincide as i32),
+        Fault::Nominated => Spot::Value(UnitRecord::KIND, 4, u.nominated as i32),
+        Fault::NotNominated => Spot::Value(UnitRecord::KIND, 5, u.n.0),
+        Fault::N => Spot::Value(UnitRecord::KIND, 5, u.n.0),
+        Fault::Pc => Spot::Value(UnitRecord::KIND, 6, u.pc.0),
+        Fault::StepDown => Spot::Value(UnitRecord::KIND, 7, u.step_down),
+        Fault::StepUp => Spot::Value(UnitRecord::KIND, 8, u.step_up),
+        Fault::Crossed => Spot::Value(UnitRecord::KIND, 7, u.step_down),
+        Fault::Age => Spot::Value(UnitRecord::KIND, 9, 0),
+    }
+}
+
 // A single record, as its writer answers.
 fn written(a: Answer, next: Making, line: u64, spot: Spot) -> Made
     ensures { λ r. ⌜ r ≡ writtenMade (answer a) next line spot ⌝ }
@@ -82,7 +103,8 @@ fn day(d: DayRecord, line: u64, room: &mut [u8]) -> Made
     ensures { λ r. ⌜ Turns (dayTurn d line (now (room .entry))) r (now (room .exit)) ⌝ }
 {
     let a = write_day(d, room);
-    written(a, Making::Between, line, Spot::OfDay(d))
+    let quarters = Spot::Value(DayRecord::KIND, 2, d.quarters as i32);
+    written(a, Making::Between, line, quarters)
 }
 
 fn end(e: EndRecord, line: u64, room: &mut [u8]) -> Made
@@ -97,7 +119,7 @@ fn open_found(g: GroupRecord, line: u64) -> Found
     ensures { λ r. ⌜ r ≡ openFound g line ⌝ }
 {
     if DayRecord::AUTUMN <= g.quarter {
-        return Found::Fault(4, line, Spot::OfGroup(g));
+        return Found::Fault(4, line, Spot::Value(GroupRecord::KIND, 3, g.quarter as i32));
     }
     Found::Nothing
 }
@@ -107,7 +129,7 @@ fn group(g: GroupRecord, line: u64, room: &mut [u8]) -> Made
     ensures { λ r. ⌜ Turns (groupTurn g line (now (room .entry))) r (now (room .exit)) ⌝ }
 {
     if !GroupRecord::permits(g.count as usize) {
-        return Made::Refused(5, line, Spot::OfGroup(g));
+        return Made::Refused(5, line, Spot::Value(GroupRecord::KIND, 4, g.count as i32));
     }
     if room.len() < GroupRecord::LEN {
         return Made::Refused(12, line, Spot::Nowhere);
@@ -134,7 +156,7 @@ fn found_in(found: Found, u: UnitRecord, floor: u32, line: u64) -> Found
         return Found::Nothing;
     };
     let why = fault.why();
-    Found::Fault(why.number(), line, Spot::OfUnit(u, fault))
+    Found::Fault(why.number(), line, fault_spot(u, fault))
 }
 
 // A block of which all lines are read.

@@ -7,9 +7,7 @@ use text::line::MARK;
 const LINE_FEED: u8 = 10;
 
 // A line that fills this is too long, or its comment is cut.
-pub fn blank() -> [u8; MARK + LONGEST + 1] {
-    [0; MARK + LONGEST + 1]
-}
+pub const LINE: usize = MARK + LONGEST + 1;
 
 // Where the reading stands: the next byte and the end of the chunk, the lines so far, and the length of the one at hand.
 pub struct Input {
@@ -17,27 +15,6 @@ pub struct Input {
     pub end: usize,
     pub lines: u64,
     pub length: usize,
-}
-
-impl Input {
-    pub fn new() -> Input {
-        Input {
-            at: 0,
-            end: 0,
-            lines: 0,
-            length: 0,
-        }
-    }
-
-    // With nothing of the next line yet.
-    fn emptied(self) -> Input {
-        Input {
-            at: self.at,
-            end: self.end,
-            lines: self.lines,
-            length: 0,
-        }
-    }
 }
 
 // What came of a turn of reading.
@@ -65,50 +42,41 @@ fn end_line(input: Input) -> Took {
     })
 }
 
-// The input is over, and with it a last line that has no line feed.
-fn end_text(input: Input) -> Took {
+// The next bytes, where those of the chunk are used up. The input may be over, and with it a last line that has no line feed.
+fn refill(input: Input, chunk: &mut [u8]) -> Took {
+    let got = libc::read(STDIN_FILENO, chunk);
+    if got < 0 {
+        return Took::Failed;
+    }
+    if 0 < got {
+        return Took::More(Input {
+            at: 0,
+            end: io::count(got, chunk),
+            lines: input.lines,
+            length: input.length,
+        });
+    }
     if input.length == 0 {
         return Took::Ended(input);
     }
     end_line(input)
 }
 
-// The next bytes, where those of the chunk are used up.
-fn refill(input: Input, chunk: &mut [u8]) -> Took {
-    let got = libc::read(STDIN_FILENO, chunk);
-    if got < 0 {
-        return Took::Failed;
-    }
-    if got == 0 {
-        return end_text(input);
-    }
-    Took::More(Input {
-        at: 0,
-        end: io::count(got, chunk),
-        lines: input.lines,
-        length: input.length,
-    })
-}
-
-// A byte of a line, which is kept as long as there is room.
-fn keep(line: &mut [u8], length: usize, byte: u8) -> usize {
-    if line.len() <= length {
-        return length;
-    }
-    line[length] = byte;
-    length + 1
-}
-
-// A byte of the input, the place of the next one given.
+// A byte of the input, the place of the next one given. One of a line is kept as long as there is room.
 fn take_byte(input: Input, byte: u8, line: &mut [u8]) -> Took {
     if byte == LINE_FEED {
         return end_line(input);
     }
+    let length = input.length;
+    if line.len() <= length {
+        return Took::More(input);
+    }
+    line[length] = byte;
     Took::More(Input {
         at: input.at,
         end: input.end,
         lines: input.lines,
-        length: keep(line, input.length, byte),
+        length: length + 1,
     })
 }
 
@@ -129,7 +97,12 @@ fn take(input: Input, chunk: &mut [u8], line: &mut [u8]) -> Took {
 
 // The next line. Nothing says that the input ends, so the turns are counted down from a number that no run uses up.
 pub fn next_line(from: Input, chunk: &mut [u8], line: &mut [u8]) -> Took {
-    let mut input = from.emptied();
+    let mut input = Input {
+        at: from.at,
+        end: from.end,
+        lines: from.lines,
+        length: 0,
+    };
     let mut left = u64::MAX;
     while 0 < left {
         let took = take(input, chunk, line);

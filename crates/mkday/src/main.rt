@@ -6,7 +6,7 @@ mod turns;
 
 fn main() {
     let mut chunk = io::large_buffer();
-    let mut line = input::blank();
+    let mut line = [0; input::LINE];
     let mut output = io::large_buffer();
     let outcome = turns::make(&mut chunk, &mut line, &mut output);
     outcome::tell(outcome, &line);

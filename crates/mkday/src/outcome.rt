@@ -1,6 +1,6 @@
 // How a run ends.
 use crate::input::least;
-use crate::told::tell_person;
+use crate::told::tell_refusal;
 use libc::STDERR_FILENO;
 use libc::STDOUT_FILENO;
 use making::spot::Spot;
@@ -19,22 +19,11 @@ pub fn written(output: &[u8], bytes: usize) -> bool {
     io::write_all(STDOUT_FILENO, &output[..length])
 }
 
-fn tell_refusal(number: u8, line: u64) {
-    io::write_all(STDERR_FILENO, b"REFUSED ");
-    io::print_decimal(STDERR_FILENO, number as u64);
-    io::write_all(STDERR_FILENO, b" ");
-    io::print_decimal(STDERR_FILENO, line);
-    io::write_all(STDERR_FILENO, b"\n");
-}
-
 // Says on standard error what went wrong; a refused line that tells a word is the one at hand.
 pub fn tell(outcome: Outcome, line: &[u8]) {
     match outcome {
         Outcome::Whole => {}
-        Outcome::Refused(number, at, spot) => {
-            tell_refusal(number, at);
-            tell_person(number, at, spot, line);
-        }
+        Outcome::Refused(number, at, spot) => tell_refusal(number, at, spot, line),
         Outcome::Unread => {
             io::write_all(STDERR_FILENO, b"FAILED reading\n");
         }

@@ -2,14 +2,8 @@
 use crate::input::least;
 use libc::STDERR_FILENO;
 use making::spot::LONGEST_SHOWN;
-use making::spot::Name;
 use making::spot::Spot;
-use making::spot::Told;
-use making::spot::day_told;
-use making::spot::group_told;
-use making::spot::name_of;
 use making::spot::show;
-use making::spot::unit_told;
 use numbers::signed::magnitude;
 use text::line::mark_length;
 
@@ -17,155 +11,132 @@ fn say(bytes: &[u8]) {
     io::write_all(STDERR_FILENO, bytes);
 }
 
-fn blank() -> [u8; LONGEST_SHOWN] {
-    [0; LONGEST_SHOWN]
-}
-
-// The names by the record that has the field: one match over all of them takes the prover longer than four over a part each.
-fn say_name(name: Name) {
-    match name {
-        Name::Word => say(b"word"),
-        Name::Extra => say(b"after the last field"),
-        Name::Day => say(b"day"),
-        Name::Quarters => say(b"quarters"),
-        Name::RunMinute => say(b"run minute"),
-        Name::PositionLimit => say(b"position age limit"),
-        Name::MarginLimit => say(b"margin age limit"),
-        _ => say_group_name(name),
-    }
-}
-
-fn say_group_name(name: Name) {
-    match name {
-        Name::Groups => say(b"groups"),
-        Name::Brp => say(b"BRP"),
-        Name::Zone => say(b"zone"),
-        Name::Quarter => say(b"quarter"),
-        Name::UnitCount => say(b"unit count"),
-        Name::PositionsMade => say(b"positions made"),
-        _ => say_unit_name(name),
-    }
-}
-
-fn say_unit_name(name: Name) {
-    match name {
-        Name::Number => say(b"number"),
-        Name::Class => say(b"class"),
-        Name::Coincide => say(b"coincide"),
-        Name::Nominated => say(b"nominated"),
-        _ => say_amount_name(name),
-    }
-}
-
-fn say_amount_name(name: Name) {
-    match name {
-        Name::N => say(b"N"),
-        Name::Pc => say(b"PC"),
-        Name::StepDown => say(b"M-"),
-        Name::StepUp => say(b"M+"),
-        _ => say(b"margins made"),
-    }
-}
-
-// What a field has to be.
-fn say_form(name: Name) {
-    match name {
-        Name::Day => say(b"a whole number from 0 to 65535 or a date such as 2026-01-14"),
-        Name::RunMinute | Name::PositionsMade | Name::MarginsMade => say(
-            b"a whole number from 0 to 4294967295 or a moment such as 2026-01-14T13:20Z",
-        ),
-        Name::Extra => say(b"a field of the line"),
-        Name::Word => say(b"a word that begins a line"),
-        _ => say_range(name),
-    }
-}
-
-fn say_range(name: Name) {
-    match name {
-        Name::N | Name::Pc | Name::StepDown | Name::StepUp => {
-            say(b"a whole number from -2147483648 to 2147483647")
+// The part of a list that has so many bars before it; the last part where there are fewer.
+fn say_part(list: &[u8], bars: usize) {
+    let mut left = bars;
+    let mut start = 0;
+    let mut next = 0;
+    while next < list.len() {
+        let byte = list[next];
+        next += 1;
+        if byte == b'|' {
+            if left == 0 {
+                say(&list[start..next - 1]);
+                return;
+            }
+            left -= 1;
+            start = next;
         }
-        Name::PositionLimit | Name::MarginLimit | Name::Brp | Name::Number => {
-            say(b"a whole number from 0 to 65535")
-        }
-        Name::Groups => say(b"a whole number from 0 to 4294967295"),
-        _ => say(b"a whole number from 0 to 255"),
     }
+    say(&list[start..]);
 }
 
-// The word of a record of this kind.
-fn say_kind(kind: u8) {
+// A record's word, then its fields as docs/TEXT.md has them, each by its name and by what it has to be: twice its index of bars stand
+// before its name, and one more before its form.
+fn say_of_record(kind: u8, bars: usize) {
     match kind {
-        1 => say(b"DAY"),
-        2 => say(b"GROUP"),
-        3 => say(b"UNIT"),
-        _ => say(b"END"),
+        1 => say_part(
+            b"DAY|\
+              |day|a whole number from 0 to 65535 or a date such as 2026-01-14\
+              |quarters|a whole number from 0 to 255\
+              |run minute|a whole number from 0 to 4294967295 or a moment such as 2026-01-14T13:20Z\
+              |position age limit|a whole number from 0 to 65535\
+              |margin age limit|a whole number from 0 to 65535\
+              |after the last field|a field of the line",
+            bars,
+        ),
+        2 => say_part(
+            b"GROUP|\
+              |BRP|a whole number from 0 to 65535\
+              |zone|a whole number from 0 to 255\
+              |quarter|a whole number from 0 to 255\
+              |unit count|a whole number from 0 to 255\
+              |positions made|a whole number from 0 to 4294967295 or a moment such as 2026-01-14T13:20Z\
+              |after the last field|a field of the line",
+            bars,
+        ),
+        3 => say_part(
+            b"UNIT|\
+              |number|a whole number from 0 to 65535\
+              |class|a whole number from 0 to 255\
+              |coincide|a whole number from 0 to 255\
+              |nominated|a whole number from 0 to 255\
+              |N|a whole number from -2147483648 to 2147483647\
+              |PC|a whole number from -2147483648 to 2147483647\
+              |M-|a whole number from -2147483648 to 2147483647\
+              |M+|a whole number from -2147483648 to 2147483647\
+              |margins made|a whole number from 0 to 4294967295 or a moment such as 2026-01-14T13:20Z\
+              |after the last field|a field of the line",
+            bars,
+        ),
+        _ => say_part(
+            b"END|\
+              |groups|a whole number from 0 to 4294967295\
+              |after the last field|a field of the line",
+            bars,
+        ),
     }
 }
 
-fn say_part(line: &[u8], from: usize, to: usize, room: &mut [u8]) {
+// A part of the line as a person can read it.
+fn say_shown(line: &[u8], from: usize, to: usize, room: &mut [u8]) {
     let end = least(to, line.len());
     let start = least(from, end);
-    let shown = show(&line[start..end], room);
-    let count = least(shown, room.len());
+    let count = show(&line[start..end], room);
     say(&room[..count]);
 }
 
 // The word that was found, behind the mark that may stand in front of the line.
 fn say_word(line: &[u8], number: u64, start: usize, end: usize) {
     let mark = mark_length(line, number);
-    let mut room = blank();
-    say_part(&line[mark..], start, end, &mut room);
+    let mut room = [0; LONGEST_SHOWN];
+    say_shown(&line[mark..], start, end, &mut room);
 }
 
-fn say_value(value: i32) {
+fn say_number(value: i32) {
     if value < 0 {
         say(b"-");
     }
     io::print_decimal(STDERR_FILENO, magnitude(value) as u64);
 }
 
-// What is wrong with a value, by the refusal's number: that of a day's or a group's field, and that of a unit's.
-fn say_why(number: u8, name: Name) {
-    match number {
-        3 => say(b" is not 92, 96 or 100"),
-        4 => say(b" is above 99"),
-        5 => say(b" is not from 1 to 64"),
-        _ => say_unit_why(number, name),
-    }
+// What is wrong, by the refusal's number from 0 on: with the line or the text, where no field is told, or with a value.
+fn say_why(number: u8) {
+    say_part(
+        b"longer than 255 bytes in front of its comment\
+          |the text stops early\
+          |nothing may come here\
+          |not 92, 96 or 100\
+          |above 99\
+          |not from 1 to 64\
+          |not above the number before it\
+          |neither 0 nor 1\
+          |not from -1000000 to 1000000\
+          |above M+\
+          |refused",
+        number as usize,
+    );
 }
 
-fn say_unit_why(number: u8, name: Name) {
-    match number {
-        6 => say(b" is not above the number before it"),
-        7 => say_flag(name),
-        8 => say(b" is not from -1000000 to 1000000"),
-        9 => say(b" is above M+"),
-        _ => say(b" is refused"),
-    }
-}
-
-fn say_flag(name: Name) {
-    match name {
-        Name::N => say(b" is not 0 though not nominated"),
-        _ => say(b" is neither 0 nor 1"),
-    }
-}
-
-fn say_told(told: Told, number: u8) {
-    let name = told.name;
+// A value that the writers refuse. N, the fifth field of a unit, is told by 7 though it is no flag.
+fn say_value(kind: u8, index: u8, value: i32, number: u8) {
     say(b", ");
-    say_name(name);
+    say_of_record(kind, (index as usize) * 2);
     say(b": ");
-    say_value(told.value);
-    say_why(number, name);
+    say_number(value);
+    say(b" is ");
+    if number == 7 && index == 5 {
+        say(b"not 0 though not nominated");
+    } else {
+        say_why(number);
+    }
 }
 
 // A field that is not in the form.
 fn say_field(kind: u8, index: u8, start: usize, end: usize, line: &[u8], at: u64) {
-    let name = name_of(kind, index);
+    let bars = (index as usize) * 2;
     say(b", ");
-    say_name(name);
+    say_of_record(kind, bars);
     if end <= start {
         say(b": missing");
         return;
@@ -173,7 +144,7 @@ fn say_field(kind: u8, index: u8, start: usize, end: usize, line: &[u8], at: u64
     say(b": ");
     say_word(line, at, start, end);
     say(b" is not ");
-    say_form(name);
+    say_of_record(kind, bars + 1);
 }
 
 fn say_came(kind: u8, start: usize, end: usize, line: &[u8], at: u64) {
@@ -181,24 +152,17 @@ fn say_came(kind: u8, start: usize, end: usize, line: &[u8], at: u64) {
     if kind == 0 {
         say_word(line, at, start, end);
     } else {
-        say_kind(kind);
+        say_of_record(kind, 0);
     }
     say(b" may not come here");
 }
 
-// Where no field is told: the whole line, or the end of the text.
-fn say_nowhere(number: u8) {
-    match number {
-        0 => say(b": longer than 255 bytes in front of its comment"),
-        1 => say(b": the text stops early"),
-        2 => say(b": nothing may come here"),
-        _ => say(b": refused"),
-    }
-}
-
 fn say_spot(number: u8, at: u64, spot: Spot, line: &[u8]) {
     match spot {
-        Spot::Nowhere => say_nowhere(number),
+        Spot::Nowhere => {
+            say(b": ");
+            say_why(number);
+        }
         Spot::Came(kind) => say_came(kind, 0, 0, line, at),
         Spot::Word(kind, index, start, end) => {
             if number == 2 {
@@ -207,15 +171,17 @@ fn say_spot(number: u8, at: u64, spot: Spot, line: &[u8]) {
                 say_field(kind, index, start, end, line, at);
             }
         }
-        Spot::OfDay(d) => say_told(day_told(d), number),
-        Spot::OfGroup(g) => say_told(group_told(g, number), number),
-        Spot::OfUnit(u, fault) => say_told(unit_told(u, fault), number),
+        Spot::Value(kind, index, value) => say_value(kind, index, value, number),
     }
 }
 
-// The refused line by its number, the field by its name, and what is wrong with it.
-pub fn tell_person(number: u8, at: u64, spot: Spot, line: &[u8]) {
-    say(b"mkday: line ");
+// By number and line for a program to read; then for a person the line, the field by its name, and what is wrong with it.
+pub fn tell_refusal(number: u8, at: u64, spot: Spot, line: &[u8]) {
+    say(b"REFUSED ");
+    io::print_decimal(STDERR_FILENO, number as u64);
+    say(b" ");
+    io::print_decimal(STDERR_FILENO, at);
+    say(b"\nmkday: line ");
     io::print_decimal(STDERR_FILENO, at);
     say_spot(number, at, spot, line);
     say(b"\n");

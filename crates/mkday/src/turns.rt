@@ -19,16 +19,6 @@ enum Step {
     Stopped(Outcome),
 }
 
-impl Step {
-    // The outcome of a step that stopped: `let .. else` does not bind it.
-    fn outcome(self) -> Outcome {
-        match self {
-            Step::On(_, _, _) => Outcome::Whole,
-            Step::Stopped(o) => o,
-        }
-    }
-}
-
 // What waits is written, and only then is it told how the run ended.
 fn stop(outcome: Outcome, output: &[u8], full: usize) -> Step {
     if !written(output, full) {
@@ -90,16 +80,8 @@ fn ending(input: Input, making: Making) -> Outcome {
     Outcome::Refused(1, std::num::wrapping_add_u64(input.lines, 1), Spot::Nowhere)
 }
 
-// The next line, or the end.
-fn turn(
-    from: Input,
-    making: Making,
-    full: usize,
-    chunk: &mut [u8],
-    line: &mut [u8],
-    output: &mut [u8],
-) -> Step {
-    let took = next_line(from, chunk, line);
+// A line, or the end.
+fn turn(took: Took, making: Making, line: &[u8], output: &mut [u8], full: usize) -> Step {
     match took {
         Took::Line(input) => line_turn(input, making, line, output, full),
         Took::Ended(input) => stop(ending(input, making), output, full),
@@ -109,18 +91,26 @@ fn turn(
 
 // The whole text. The turns are counted down, as those of a line.
 pub fn make(chunk: &mut [u8], line: &mut [u8], output: &mut [u8]) -> Outcome {
-    let mut input = Input::new();
+    let mut input = Input {
+        at: 0,
+        end: 0,
+        lines: 0,
+        length: 0,
+    };
     let mut making = Making::new();
     let mut full = 0;
     let mut left = u64::MAX;
     while 0 < left {
-        let s = turn(input, making, full, chunk, line, output);
-        let Step::On(i, m, f) = s else {
-            return s.outcome();
-        };
-        input = i;
-        making = m;
-        full = f;
+        let took = next_line(input, chunk, line);
+        let s = turn(took, making, line, output, full);
+        match s {
+            Step::On(i, m, f) => {
+                input = i;
+                making = m;
+                full = f;
+            }
+            Step::Stopped(outcome) => return outcome,
+        }
         left -= 1;
     }
     Outcome::Unread

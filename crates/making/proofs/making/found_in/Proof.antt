@@ -33,11 +33,15 @@ why-requires c κs = search needs
 number-requires : tie.Need-number-requires
 number-requires c κs = search needs
 
+fault-spot-requires : tie.Need-fault-spot-requires
+fault-spot-requires c κs = search needs
+
 returns-3 : tie.Need-returns-3
 returns-3 c =
-    let told = c .before .before .before in
+    let number = c .before in
+    let told = number .before .before .before in
     let checked = told .before .before in
-    rw (checked .before .enum-told .given .1, sym (checked .faults .ensures) ∙ told .c .given .1, c .number .ensures, c .before .why .ensures)
+    rw (checked .before .enum-told .given .1, sym (checked .faults .ensures) ∙ told .c .given .1, number .number .ensures, number .before .why .ensures, c .fault-spot .ensures)
 
 pub found-in-spec : {M : Type 1} → statement M
 found-in-spec =
@@ -52,4 +56,5 @@ found-in-spec =
     returns-2
     why-requires
     number-requires
+    fault-spot-requires
     returns-3)

@@ -1,5 +1,10 @@
 -- 5 and 12 leave the room as it is, and else the record lies at its front.
 use mathlib.Core.Path.{refl, sym, _∙_}
+use Prim.Native.Nat.{_^_, _<_}
+use native.Mathlib.Omega.{arith}
+use mir.Facts.{toZ-pos}
+use mir.Val.{hbits}
+use mir.Syntax.{w32}
 use borrow.Author.Tests.{not-true, not-false, lt-leb, le-leb}
 use Rattle.making.specs.Making.{groupTurn}
 use borrow.Author.Needs.{needs}
@@ -12,9 +17,15 @@ cast-permits c = search needs
 permits-requires : tie.Need-permits-requires
 permits-requires c κs = search needs
 
+cast-t8 : tie.Need-cast-t8
+cast-t8 c = search needs
+
 returns : tie.Need-returns
 unfolding groupTurn
-returns c = rw (sym (c .before .permits .ensures) ∙ not-true _ (c .if1 .taken)) (record { answered = refl; left = refl })
+returns c =
+    let count = c .before in
+    let h : count .before .before .before .before .args .g .count < 2 ^ hbits w32 = omega arith in
+    rw (sym (count .before .permits .ensures) ∙ not-true _ (count .if1 .taken)) (record { answered = simp (toZ-pos w32); left = refl })
 
 returns-2 : tie.Need-returns-2
 unfolding groupTurn
@@ -45,6 +56,7 @@ group-spec =
     (tie.spec
     cast-permits
     permits-requires
+    cast-t8
     returns
     returns-2
     lay-group-requires

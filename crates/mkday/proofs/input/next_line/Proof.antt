@@ -11,9 +11,6 @@ Inv-loop chunk₀ line₀ input₀ left₀ chunk line input left = (length chunk
 abbrev μ-loop : tie.MeasureT-loop
 μ-loop chunk₀ line₀ input₀ left₀ chunk line input left = left
 
-emptied-requires : tie.Need-emptied-requires Inv-loop μ-loop
-emptied-requires c κs = search needs
-
 loop-holds : tie.Need-loop-holds Inv-loop μ-loop
 loop-holds c = search needs
 
@@ -56,7 +53,6 @@ next-line-spec =
     (tie.spec
     Inv-loop
     μ-loop
-    emptied-requires
     loop-holds
     take-requires
     enum-known-took

@@ -1,60 +1,95 @@
--- Safe: what is shown lies within the room.
-use mathlib.Core.Path.{sym}
-use lib.Seq.{length-take-le}
-use native.Mathlib.Omega.{arith}
+-- The part lies within the list.
+use Prim.Native.Nat.{_-_, _≤_}
+use lib.ListN.{length}
 use borrow.Author.Needs.{needs}
 use Rattle.mkday.proofs.told.say_part.Statement.{statement}
 use Rattle.mkday.proofs.told.say_part.Tie as tie
 
-least-requires : tie.Need-least-requires
-least-requires c κs = search needs
+abbrev Inv-loop : tie.InvT-loop
+Inv-loop list index left₀ start₀ next₀ left start next = (start ≤ next) × (next ≤ length list)
 
-least-requires-2 : tie.Need-least-requires-2
-least-requires-2 c κs = search needs
+abbrev μ-loop : tie.MeasureT-loop
+μ-loop list index left₀ start₀ next₀ left start next = length list - next
 
-sub-show : tie.Need-sub-show
-sub-show c = search needs
+loop-holds : tie.Need-loop-holds Inv-loop μ-loop
+loop-holds c = search needs
 
-part-show-start : tie.Need-part-show-start
-part-show-start c = search needs
+shared-slice-read-byte : tie.Need-shared-slice-read-byte Inv-loop μ-loop
+shared-slice-read-byte c = search needs
 
-part-show-end : tie.Need-part-show-end
-part-show-end c = search needs
+add-next : tie.Need-add-next Inv-loop μ-loop
+add-next c = search needs
 
-show-requires : tie.Need-show-requires
-show-requires c κs = search needs
+sub-say : tie.Need-sub-say Inv-loop μ-loop
+sub-say c = search needs
 
-least-requires-3 : tie.Need-least-requires-3
-least-requires-3 c κs = search needs
+sub-say-2 : tie.Need-sub-say-2 Inv-loop μ-loop
+sub-say-2 c = search needs
 
-slice-reshare-prefix-say : tie.Need-slice-reshare-prefix-say
-slice-reshare-prefix-say c = search needs
+part-say-start : tie.Need-part-say-start Inv-loop μ-loop
+part-say-start c = search needs
 
-slice-aggregate-say : tie.Need-slice-aggregate-say
-slice-aggregate-say c = sym (length-take-le _ _ (omega arith))
+part-say-end : tie.Need-part-say-end Inv-loop μ-loop
+part-say-end c = search needs
 
-say-requires : tie.Need-say-requires
+say-requires : tie.Need-say-requires Inv-loop μ-loop
 say-requires c κs = search needs
 
-same-length : tie.Need-same-length
-same-length c = search needs
-
-returns : tie.Need-returns
+returns : tie.Need-returns Inv-loop μ-loop
 returns c = search needs
+
+sub-left : tie.Need-sub-left Inv-loop μ-loop
+sub-left c = search needs
+
+loop-less : tie.Need-loop-less Inv-loop μ-loop
+loop-less c = search needs
+
+loop-again : tie.Need-loop-again Inv-loop μ-loop
+loop-again c = search needs
+
+loop-less-2 : tie.Need-loop-less-2 Inv-loop μ-loop
+loop-less-2 c = search needs
+
+loop-again-2 : tie.Need-loop-again-2 Inv-loop μ-loop
+loop-again-2 c = search needs
+
+sub-say-3 : tie.Need-sub-say-3 Inv-loop μ-loop
+sub-say-3 c = search needs
+
+part-say-start-2 : tie.Need-part-say-start-2 Inv-loop μ-loop
+part-say-start-2 c = search needs
+
+part-say-end-2 : tie.Need-part-say-end-2 Inv-loop μ-loop
+part-say-end-2 c = search needs
+
+say-requires-2 : tie.Need-say-requires-2 Inv-loop μ-loop
+say-requires-2 c κs = search needs
+
+returns-2 : tie.Need-returns-2 Inv-loop μ-loop
+returns-2 c = search needs
 
 pub say-part-spec : {M : Type 1} → statement M
 say-part-spec =
     tie.close
     (tie.spec
-    least-requires
-    least-requires-2
-    sub-show
-    part-show-start
-    part-show-end
-    show-requires
-    least-requires-3
-    slice-reshare-prefix-say
-    slice-aggregate-say
+    Inv-loop
+    μ-loop
+    loop-holds
+    shared-slice-read-byte
+    add-next
+    sub-say
+    sub-say-2
+    part-say-start
+    part-say-end
     say-requires
-    same-length
-    returns)
+    returns
+    sub-left
+    loop-less
+    loop-again
+    loop-less-2
+    loop-again-2
+    sub-say-3
+    part-say-start-2
+    part-say-end-2
+    say-requires-2
+    returns-2)

@@ -5,32 +5,32 @@ use mir.Facts.{toZ-pos}
 use mir.Val.{hbits}
 use mir.Syntax.{w32}
 use borrow.Author.Needs.{needs}
-use Rattle.making.proofs.spot.fault_value.Statement.{statement}
-use Rattle.making.proofs.spot.fault_value.Tie as tie
+use Rattle.making.proofs.making.fault_spot.Statement.{statement}
+use Rattle.making.proofs.making.fault_spot.Tie as tie
 
 enum-told : tie.Need-enum-told
 enum-told c = search needs
 
-cast-result : tie.Need-cast-result
-cast-result c = search needs
+cast-t4 : tie.Need-cast-t4
+cast-t4 c = search needs
 
 enum-told-2 : tie.Need-enum-told-2
 enum-told-2 c = search needs
 
-cast-result-2 : tie.Need-cast-result-2
-cast-result-2 c = search needs
+cast-t5 : tie.Need-cast-t5
+cast-t5 c = search needs
 
 enum-told-3 : tie.Need-enum-told-3
 enum-told-3 c = search needs
 
-cast-result-3 : tie.Need-cast-result-3
-cast-result-3 c = search needs
+cast-t6 : tie.Need-cast-t6
+cast-t6 c = search needs
 
 enum-told-4 : tie.Need-enum-told-4
 enum-told-4 c = search needs
 
-cast-result-4 : tie.Need-cast-result-4
-cast-result-4 c = search needs
+cast-t7 : tie.Need-cast-t7
+cast-t7 c = search needs
 
 enum-told-5 : tie.Need-enum-told-5
 enum-told-5 c = search needs
@@ -94,18 +94,18 @@ returns-10 c = rw (c .before .enum-told10 .given .1) (search needs)
 returns-11 : tie.Need-returns-11
 returns-11 c = rw (c .enum-told11 .given .1)
 
-pub fault-value-spec : {M : Type 1} → statement M
-fault-value-spec =
+pub fault-spot-spec : {M : Type 1} → statement M
+fault-spot-spec =
     tie.close
     (tie.spec
     enum-told
-    cast-result
+    cast-t4
     enum-told-2
-    cast-result-2
+    cast-t5
     enum-told-3
-    cast-result-3
+    cast-t6
     enum-told-4
-    cast-result-4
+    cast-t7
     enum-told-5
     enum-told-6
     enum-told-7
