@@ -6,7 +6,7 @@ use text::line::MARK;
 
 const LINE_FEED: u8 = 10;
 
-// A line that fills this is too long, or its comment is cut.
+// The room for a line: one that fills it is too long, or its comment is cut.
 pub const LINE: usize = MARK + LONGEST + 1;
 
 // Where the reading stands: the next byte and the end of the chunk, the lines so far, and the length of the one at hand.

@@ -1,4 +1,4 @@
-// What a refusal says to a person, on the line after its number.
+// What a refusal says: its number and its line, and on the line after them a sentence for a person.
 use crate::input::least;
 use libc::STDERR_FILENO;
 use making::spot::LONGEST_SHOWN;
@@ -31,8 +31,8 @@ fn say_part(list: &[u8], bars: usize) {
     say(&list[start..]);
 }
 
-// A record's word, then its fields as docs/TEXT.md has them, each by its name and by what it has to be: twice its index of bars stand
-// before its name, and one more before its form.
+// A record's word, then its fields as docs/TEXT.md has them, each by its name and by what it has to be. Twice its index of bars stand
+// before its name. Of a word that no record has nothing is asked here: it may not come.
 fn say_of_record(kind: u8, bars: usize) {
     match kind {
         1 => say_part(
@@ -175,7 +175,7 @@ fn say_spot(number: u8, at: u64, spot: Spot, line: &[u8]) {
     }
 }
 
-// By number and line for a program to read; then for a person the line, the field by its name, and what is wrong with it.
+// The number and the line, for a program to read; then the line, the field by its name, and what is wrong with it.
 pub fn tell_refusal(number: u8, at: u64, spot: Spot, line: &[u8]) {
     say(b"REFUSED ");
     io::print_decimal(STDERR_FILENO, number as u64);
