@@ -22,9 +22,11 @@ static const char *sentence(int32_t number)
     case FLEHWELLA_FLAG: return "class, coincide or nominated other than 0 or 1, or N not 0 though not nominated";
     case FLEHWELLA_RANGE: return "a quantity outside -1,000,000 to 1,000,000 kWh";
     case FLEHWELLA_CROSSED: return "the step-down margin lies above the step-up margin";
-    case FLEHWELLA_POSITION_AGE: return "positions older than the limit, or made after the run";
-    case FLEHWELLA_MARGIN_AGE: return "margins older than the limit, or made after the run";
+    case FLEHWELLA_POSITION_AGE: return "positions older than the limit";
+    case FLEHWELLA_MARGIN_AGE: return "margins older than the limit";
     case FLEHWELLA_ROOM: return "the room lent is too small";
+    case FLEHWELLA_POSITION_AHEAD: return "positions made after the run";
+    case FLEHWELLA_MARGIN_AHEAD: return "margins made after the run";
     /* */
     default: return "a refusal that this call does not give";
     }
@@ -55,6 +57,7 @@ static int is_of_a_unit(int32_t number)
     case FLEHWELLA_RANGE: return 1;
     case FLEHWELLA_CROSSED: return 1;
     case FLEHWELLA_MARGIN_AGE: return 1;
+    case FLEHWELLA_MARGIN_AHEAD: return 1;
     /* */
     default: return 0;
     }

@@ -21,7 +21,7 @@ extern "C" {
 #endif
 
 /* The version of this header and of the library it came with. */
-#define FLEHWELLA_VERSION "0.1.0"
+#define FLEHWELLA_VERSION "0.2.0"
 
 /* Lengths in bytes of what goes in: a day record; a group record and its unit records, which together are a block. */
 #define FLEHWELLA_DAY_LENGTH 12
@@ -44,7 +44,8 @@ extern "C" {
 #define FLEHWELLA_RESULT_MAX 1307
 
 /* tests/refusals */
-/* Every refusal of the house, by its number. flehwella_check gives 1 to 12, of which 6 to 9 and 11 speak of one unit. */
+/* Every refusal of the house, by its number. flehwella_check gives 1 to 12, 17 and 18, of which 6 to 9, 11 and 18 speak of
+ * one unit. */
 enum flehwella_refusal {
     /* the record is cut short */
     FLEHWELLA_CUT_SHORT = 1,
@@ -64,9 +65,9 @@ enum flehwella_refusal {
     FLEHWELLA_RANGE = 8,
     /* the step-down margin lies above the step-up margin */
     FLEHWELLA_CROSSED = 9,
-    /* positions older than the limit, or made after the run */
+    /* positions older than the limit */
     FLEHWELLA_POSITION_AGE = 10,
-    /* margins older than the limit, or made after the run */
+    /* margins older than the limit */
     FLEHWELLA_MARGIN_AGE = 11,
     /* the room lent is too small */
     FLEHWELLA_ROOM = 12,
@@ -75,7 +76,11 @@ enum flehwella_refusal {
     /* the end record counts other groups than were accepted */
     FLEHWELLA_END_COUNT = 14,
     /* columns of unequal length */
-    FLEHWELLA_COLUMNS = 15
+    FLEHWELLA_COLUMNS = 15,
+    /* positions made after the run */
+    FLEHWELLA_POSITION_AHEAD = 17,
+    /* margins made after the run */
+    FLEHWELLA_MARGIN_AHEAD = 18
 };
 /* */
 

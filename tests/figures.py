@@ -1,5 +1,5 @@
 #!/usr/bin/env python3
-"""Works out from document 01, without the library, the lines that the program `figures` must write.
+"""Works out from documents 01 and 02, without the library, the lines that the program `figures` must write.
 
 usage: tests/figures.py            the lines, for crates/figures/stdout
        tests/figures.py --check    compares that file with them
@@ -152,7 +152,7 @@ RUN, AGE_LIMIT = 240, 120
 AGES = [  # name, minute made, and what the document tells
     ("Age 120 of 120", 120, "passes"),
     ("Age 121 of 120", 119, "refused 10 at 6"),
-    ("A minute ahead", 241, "refused 10 at 6"),
+    ("A minute ahead", 241, "refused 17 at 6"),
 ]
 DATE_FOR_AGE = ("Made at minute 100, age 140 of 120", 100)
 
@@ -160,7 +160,7 @@ DATE_FOR_AGE = ("Made at minute 100, age 140 of 120", 100)
 def aged(made, wrong=None):
     """What a group record made at a minute is told: its age is the run's minute less its own."""
     age = made if wrong == "date for age" else RUN - made
-    return "passes" if 0 <= age <= AGE_LIMIT else "refused 10 at 6"
+    return "refused 17 at 6" if age < 0 else "passes" if age <= AGE_LIMIT else "refused 10 at 6"
 
 
 def line(name, out):
@@ -188,7 +188,7 @@ def lines():
 def main(words):
     text = "".join(each + "\n" for each in lines())
     if words == ["--check"]:
-        return 0 if STDOUT.read_text() == text else f"{STDOUT} is not what document 01 gives"
+        return 0 if STDOUT.read_text() == text else f"{STDOUT} is not what the documents give"
     sys.stdout.write(text)
     return 0
 

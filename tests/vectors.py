@@ -228,10 +228,11 @@ def walk_at_check(v, reply):
     expect = v["expect"]
     if "refused" in expect:
         step = expect["refused"]
-    elif "extent" in expect:
-        step = extent_step(bytes.fromhex(v["data"]), *expect["extent"])
+    elif expect == "done":
+        step = expect
     else:
-        step = "done"
+        step = [expect["start"], expect["place"], STATES.index(expect["state"])]
+        same("length", expect["start"] + expect["length"], expect["place"])
     same("step", take_step(reply), step)
 
 

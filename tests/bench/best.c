@@ -1,5 +1,5 @@
 /* The C call as tight as its author could write it by hand in C for x86-64 without extensions: how close the proved one comes
- * to what the processor can do. It knows document 01 alone, and gives the same replies and bytes.
+ * to what the processor can do. It knows the documents alone, and gives the same replies and bytes.
  *
  * Four units are taken at a time in vectors of 128 bits. It differs from a plain program in this:
  *  - the checks of a unit are no branches: faults are gathered, and where one is found, or a block has fewer than four units,

@@ -1,5 +1,6 @@
-/* The ways in of document 01. The parts follow its sections: quantities and
- * signs, the steps, house records, the table of the day, ways in. */
+/* The ways in of document 01, with request 2 of document 02 ("late or early").
+ * The parts follow the sections of 01: quantities and signs, the steps, house
+ * records, the table of the day, ways in. */
 #include "second.h"
 
 #include <stdbool.h>
@@ -17,12 +18,14 @@ enum {
     BAD_CHOICE = 7,
     OUT_OF_RANGE = 8,
     MARGINS_CROSSED = 9,
-    POSITION_AGE = 10,
-    MARGIN_AGE = 11,
+    POSITION_STALE = 10,
+    MARGINS_STALE = 11,
     ROOM_SHORT = 12,
     BLOCK_NOT_RISING = 13,
     BAD_END_COUNT = 14,
-    UNEQUAL_COLUMNS = 15
+    UNEQUAL_COLUMNS = 15,
+    POSITION_AHEAD = 17, /* 16 belongs to a request of 02 that is not in here */
+    MARGINS_AHEAD = 18
 };
 
 static const second_refusal accepted = {0, 0};
@@ -290,12 +293,12 @@ static bool quarters_permitted(uint8_t quarters)
     return quarters == 92 || quarters == 96 || quarters == 100;
 }
 
-/* An age is a whole-number difference: a minute made after the run is negative
- * and never wraps round to a large age. */
-static bool age_permitted(uint32_t run, uint32_t made, uint16_t limit)
+/* An age is a whole-number difference: that of a minute made after the run is
+ * negative and never wraps round to a large one, so that a stamp ahead of the run
+ * (a wrong clock) is never told as a stale one. */
+static int64_t age_of(uint32_t run, uint32_t made)
 {
-    const int64_t age = (int64_t)run - (int64_t)made;
-    return age >= 0 && age <= limit;
+    return (int64_t)run - (int64_t)made;
 }
 
 static bool key_above(second_key key, second_key last)
@@ -475,8 +478,9 @@ static size_t result_length(size_t count)
     return SECOND_GROUP_RESULT_LENGTH + count * SECOND_UNIT_RESULT_LENGTH;
 }
 
-/* The fields of a block whose group record is whole. Group: 4, 5, 13, 10; each
- * unit in turn: 2 and 1, then 6, 7, 8, 9, 11. */
+/* The fields of a block whose group record is whole. Group: 4, 5, 13, 17 or 10;
+ * each unit in turn: 2 and 1, then 6, 7, 8, 9, 18 or 11. Stale and ahead cannot
+ * both be true of one stamp, so that they share a rank and a place. */
 static second_refusal read_block(const second_day *day, const uint8_t *bytes, size_t len,
                                  block *b)
 {
@@ -484,7 +488,8 @@ static second_refusal read_block(const second_day *day, const uint8_t *bytes, si
     b->key.zone = bytes[GROUP_AT_ZONE];
     b->key.quarter = bytes[GROUP_AT_QUARTER];
     b->count = bytes[GROUP_AT_COUNT];
-    const uint32_t positions_made = get_u32(bytes + GROUP_AT_POSITIONS_MADE);
+    const int64_t position_age =
+        age_of(day->run, get_u32(bytes + GROUP_AT_POSITIONS_MADE));
 
     if (b->key.quarter >= day->quarters)
         return refuse(BAD_QUARTER, GROUP_AT_QUARTER);
@@ -492,8 +497,10 @@ static second_refusal read_block(const second_day *day, const uint8_t *bytes, si
         return refuse(BAD_UNIT_COUNT, GROUP_AT_COUNT);
     if (day->seen && !key_above(b->key, day->last))
         return refuse(BLOCK_NOT_RISING, GROUP_AT_BRP);
-    if (!age_permitted(day->run, positions_made, day->position_age_limit))
-        return refuse(POSITION_AGE, GROUP_AT_POSITIONS_MADE);
+    if (position_age < 0)
+        return refuse(POSITION_AHEAD, GROUP_AT_POSITIONS_MADE);
+    if (position_age > day->position_age_limit)
+        return refuse(POSITION_STALE, GROUP_AT_POSITIONS_MADE);
 
     uint16_t number_before = 0;
     for (size_t i = 0; i < b->count; i++) {
@@ -506,8 +513,11 @@ static second_refusal read_block(const second_day *day, const uint8_t *bytes, si
         refusal = check_unit(&u, i == 0, number_before);
         if (refusal.number != 0)
             return refuse(refusal.number, at + refusal.place);
-        if (!age_permitted(day->run, u.made, day->margin_age_limit))
-            return refuse(MARGIN_AGE, at + UNIT_AT_MADE);
+        const int64_t margin_age = age_of(day->run, u.made);
+        if (margin_age < 0)
+            return refuse(MARGINS_AHEAD, at + UNIT_AT_MADE);
+        if (margin_age > day->margin_age_limit)
+            return refuse(MARGINS_STALE, at + UNIT_AT_MADE);
 
         number_before = u.number;
         b->number[i] = u.number;

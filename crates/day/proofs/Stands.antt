@@ -17,12 +17,13 @@ use Rattle.terms.specs.declared.refusal.Checked.{Checked}
 use Rattle.terms.specs.declared.refusal.Checked.the-variants.{Fine, Faulty}
 use Rattle.records.specs.declared.group.GroupRecord.{GroupRecord}
 use Rattle.records.specs.declared.unit.UnitRecord.{UnitRecord}
-use Rattle.records.specs.Layouts.{groupLength, unitLength, unitAt, lengthOf}
+use Rattle.records.specs.Layouts.{groupLength, groupAt, unitLength, unitAt, lengthOf}
 use Rattle.records.specs.Reading.{headOf, unitHeadOf, unitEnd, placeFrom, dayFieldsOf, groupFieldsOf, endFieldsOf, faultPlace, unitFaults, unitFieldsOf, unitOf, unitsOf}
 use Rattle.records.specs.Longest.{longestUnit, longestBlock}
 use Rattle.records.proofs.Alike.{Agree, agree, day-kept, group-kept, end-kept, units-same}
 use Rattle.records.proofs.UnitHeads.{unit-most, read-long, unit-long}
 use Rattle.records.proofs.Read.{group-passed}
+use Rattle.records.proofs.Ages.{of-position}
 use Rattle.walk.specs.declared.table.State.{State}
 use Rattle.walk.specs.declared.table.Role.{Role}
 use Rattle.walk.specs.declared.table.Role.the-variants as R
@@ -155,6 +156,7 @@ fault-other F.Pc = refl
 fault-other F.StepDown = refl
 fault-other F.StepUp = refl
 fault-other F.Crossed = refl
+fault-other F.Ahead = refl
 fault-other F.Age = refl
 
 module _ (s : List ℕ) where
@@ -187,7 +189,7 @@ module _ (s : List ℕ) where
         λ block e. passes _ _ 12 0 refl refl
       where
         group-enough : cutShort (groupFieldsOf s (day .«record») (day .last)) ≡ false
-        group-enough = passes _ _ 4 _ refl (passes _ _ 5 _ refl (passes _ _ 13 _ refl (passes _ _ 10 _ refl refl)))
+        group-enough = passes _ _ 4 _ refl (passes _ _ 5 _ refl (passes _ _ 13 _ refl (passes _ _ _ _ (of-position (λ n. eqb n 1 ≡ false) refl refl (day .«record» .run) (groupAt s 0 .made)) refl)))
 
     taken-enough : (day : Day) (room : ℕ) (role : Role) (end : ℕ) → cutShort (taken day s room role end) ≡ false
     unfolding dayTaken dayFieldsOf endTaken endFieldsOf

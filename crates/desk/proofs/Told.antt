@@ -23,10 +23,11 @@ use Rattle.group.specs.Columns.{sumsOf}
 use Rattle.group.specs.Demand3.{Demand3}
 use Rattle.records.specs.declared.day.DayRecord.{DayRecord}
 use Rattle.records.specs.declared.key.Last.the-variants.{Nothing}
-use Rattle.records.specs.Layouts.{groupResultAt, unitResultAt}
+use Rattle.records.specs.Layouts.{groupAt, groupResultAt, unitResultAt}
 use Rattle.records.specs.Longest.{longestResult}
 use Rattle.records.specs.Reading.{permitted, headOf, dayFieldsOf, dayOf, groupFieldsOf, unitHeadOf, unitEnd, unitFieldsOf, unitOf, unitsOf}
 use Rattle.records.proofs.Read.{day-read, group-passed}
+use Rattle.records.proofs.Ages.{of-position}
 use Rattle.writers.specs.Results.{resultLength}
 use Rattle.walk.specs.declared.table.State.the-variants.{Open}
 use Rattle.walk.specs.declared.table.Role.the-variants.{Block}
@@ -99,6 +100,7 @@ early-fault F.Pc = refl
 early-fault F.StepDown = refl
 early-fault F.StepUp = refl
 early-fault F.Crossed = refl
+early-fault F.Ahead = refl
 early-fault F.Age = refl
 
 early-passed : {A : Type 0} {rest : Reply A} (place : Fault → ℕ) (checks : Checked) → Early rest → Early (passed place checks rest)
@@ -125,7 +127,7 @@ module _ (s : List ℕ) where
     -- the first block of a day comes after none
     early-group : Early (groupFieldsOf s d Nothing)
     unfolding groupFieldsOf
-    early-group = early-need _ 4 _ refl (early-need _ 5 _ refl (early-true 13 _ (early-need _ 10 _ refl (value _))))
+    early-group = early-need _ 4 _ refl (early-need _ 5 _ refl (early-true 13 _ (early-need _ _ _ (of-position (λ n. early n ≡ true) refl refl (d .run) (groupAt s 0 .made)) (value _))))
 
     early-block : (room : ℕ) → Early (blockTaken (opened d) s room)
     unfolding blockTaken blockFieldsOf

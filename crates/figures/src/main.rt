@@ -1,4 +1,4 @@
-// Runs the figures of document 01 and writes what comes out; `tests/figures.py` works out what is expected.
+// Runs the figures of document 01, as 02 has them, and writes what comes out; `tests/figures.py` works out what is expected.
 mod ages;
 mod print;
 mod readings;

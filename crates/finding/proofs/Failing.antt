@@ -4,24 +4,16 @@ use mathlib.Core.Path.{_≡_, refl, sym, ap, _∙_}
 use mathlib.Core.Bool.{Bool, true, false}
 use mathlib.Core.List.{List}
 use native.Mathlib.Omega.{arith}
-use Rattle.terms.specs.Reply.{Reply, is, refused, need, next}
+use Rattle.terms.specs.Reply.{Reply, is, refused, next}
 use Rattle.terms.specs.Refusals.{numberOf, whyOf, passed}
 use Rattle.terms.specs.declared.refusal.Fault.{Fault}
 use Rattle.terms.specs.declared.refusal.Checked.{Checked}
 use Rattle.terms.specs.declared.refusal.Checked.the-variants.{Fine, Faulty}
-use Rattle.terms.proofs.Replies.{never}
+use Rattle.terms.proofs.Replies.{never, need-past}
 use Rattle.records.specs.declared.unit.UnitRecord.{UnitRecord}
 use Rattle.records.specs.Layouts.{unitAt}
 use Rattle.records.specs.Reading.{headOf, unitHeadOf, unitEnd, placeFrom, faultPlace, unitFaults, unitFieldsOf, unitOf, unitsOf}
 use Rattle.records.proofs.Places.{place-later}
-
--- a refusal by another number than a test's came after it
-pub need-past : {A : Type 0} (t : Bool) (m q : ℕ) (rest : Reply A) {n p : ℕ} → need t m q rest ≡ refused n p → (n ≡ m → ⊥) → rest ≡ refused n p
-unfolding need
-need-past true m q rest e h = e
-need-past false m q rest {n} {p} e h =
-    let z : n ≡ m = cc in
-    absurd (h z)
 
 -- a refusal came of the reading in front, or of what comes after it
 pub data From {A B : Type 0} (x : Reply A) (rest : A → Reply B) (n p : ℕ) : Type 0 where

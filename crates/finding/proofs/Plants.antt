@@ -1,7 +1,7 @@
 -- A refusal of a unit's field names the first unit that does not pass: the offer's checks lead to its units, and the walk over them to its record.
 use Prim.Native.Nat.{ℕ, zero, suc, _+_, _-_, _≤_, _<_}
 use mathlib.Core.Path.{_≡_, refl, sym, ap, _∙_}
-use mathlib.Core.Bool.{Bool, true, false, false≢true}
+use mathlib.Core.Bool.{Bool, true, false, _||_, false≢true}
 use mathlib.Core.List.{List}
 use native.Mathlib.Omega.{arith}
 use borrow.Author.Tests.{lt-ltb, le-ltb, le-leb, eq-eqb}
@@ -16,12 +16,13 @@ use Rattle.terms.specs.declared.refusal.Why.the-variants as W
 use Rattle.terms.specs.declared.refusal.Fault.{Fault}
 use Rattle.terms.specs.declared.refusal.Fault.the-variants as A
 use Rattle.terms.specs.declared.refusal.Refusal.{Refusal}
-use Rattle.terms.proofs.Replies.{never, need-is}
+use Rattle.terms.proofs.Replies.{never, need-is, need-past}
 use Rattle.terms.proofs.Same.{why-same}
 use Rattle.records.specs.declared.group.GroupRecord.{GroupRecord}
 use Rattle.records.specs.Layouts as L
 use Rattle.records.specs.Reading.{unitEnd, placeFrom, unitPlace, unitIn, faultPlace, groupFieldsOf, dayFieldsOf, endFieldsOf, unitsOf}
 use Rattle.records.proofs.Heads.{headed}
+use Rattle.records.proofs.Ages.{of-position}
 use Rattle.records.proofs.Places.{place-later, place-from}
 use Rattle.walk.specs.declared.table.Role.{Role}
 use Rattle.walk.specs.declared.table.Role.the-variants.{Opens, Block, Closes}
@@ -37,7 +38,7 @@ use Rattle.finding.specs.declared.named.Subject.the-variants as S
 use Rattle.finding.specs.Spots.{groupWhole, spotFrom, spotOf}
 use Rattle.finding.specs.Naming.{keyIn, unitLayout, unitFieldAt, toldOf, findingOf, namedOf}
 use Rattle.finding.specs.Plants.{ofUnit, faultField, faultHeld, Plant}
-use Rattle.finding.proofs.Failing.{next-from, either, need-past, First, first}
+use Rattle.finding.proofs.Failing.{next-from, either, First, first}
 
 -- ---- the walk finds the record of the unit of an index
 abbrev beforeFrom : List ℕ → ℕ → ℕ → ℕ → ℕ
@@ -79,6 +80,7 @@ row day s at before A.Pc p e = rw e
 row day s at before A.StepDown p e = rw e
 row day s at before A.StepUp p e = rw e
 row day s at before A.Crossed p e = refl
+row day s at before A.Ahead p e = refl
 row day s at before A.Age p e = refl
 
 field-at : (fault : Fault) → unitLayout (faultField fault) .place ≡ faultPlace fault
@@ -92,6 +94,7 @@ field-at A.Pc = refl
 field-at A.StepDown = refl
 field-at A.StepUp = refl
 field-at A.Crossed = refl
+field-at A.Ahead = refl
 field-at A.Age = refl
 
 -- a place of fault lies within the record
@@ -106,13 +109,20 @@ inside A.Pc = omega arith
 inside A.StepDown = omega arith
 inside A.StepUp = omega arith
 inside A.Crossed = omega arith
+inside A.Ahead = omega arith
 inside A.Age = omega arith
 
 -- ---- numbers of a unit's field are those of no other check
+abbrev others : ℕ → Bool
+others n = eqb n 10 || (eqb n 12 || (eqb n 13 || (eqb n 14 || eqb n 17)))
+
 record Own (n : ℕ) : Type 0 where
   low : 6 ≤ n
-  high : n ≤ 11
-  apart : n ≡ 10 → ⊥
+  apart : others n ≡ false
+
+-- so it is none of those
+apart-from : (n m : ℕ) → others m ≡ true → Own n → n ≡ m → ⊥
+apart-from n m e o z = false≢true (sym (o .apart) ∙ ap others z ∙ e)
 
 own : (w : Why) → ofUnit w ≡ true → Own (numberOf w)
 own W.CutShort e = absurd (false≢true e)
@@ -120,16 +130,18 @@ own W.Kind e = absurd (false≢true e)
 own W.Quarters e = absurd (false≢true e)
 own W.Quarter e = absurd (false≢true e)
 own W.UnitCount e = absurd (false≢true e)
-own W.UnitNumber e = record { low = omega arith; high = omega arith; apart = λ z. omega arith }
-own W.Flag e = record { low = omega arith; high = omega arith; apart = λ z. omega arith }
-own W.Range e = record { low = omega arith; high = omega arith; apart = λ z. omega arith }
-own W.Crossed e = record { low = omega arith; high = omega arith; apart = λ z. omega arith }
+own W.UnitNumber e = record { low = omega arith; apart = refl }
+own W.Flag e = record { low = omega arith; apart = refl }
+own W.Range e = record { low = omega arith; apart = refl }
+own W.Crossed e = record { low = omega arith; apart = refl }
 own W.PositionAge e = absurd (false≢true e)
-own W.MarginAge e = record { low = omega arith; high = omega arith; apart = λ z. omega arith }
+own W.MarginAge e = record { low = omega arith; apart = refl }
 own W.Room e = absurd (false≢true e)
 own W.BlockOrder e = absurd (false≢true e)
 own W.EndCount e = absurd (false≢true e)
 own W.Columns e = absurd (false≢true e)
+own W.PositionAhead e = absurd (false≢true e)
+own W.MarginAhead e = record { low = omega arith; apart = refl }
 
 no-block : {P : Type 0} (role : Role) → isBlock role ≡ false → role ≡ Block → P
 no-block role e k =
@@ -174,7 +186,7 @@ module _ (day : Day) (s : List ℕ) (n p : ℕ) (o : Own n) where
   end-first : (end : ℕ) → endTaken day s end ≡ refused n p → ⊥
   unfolding endTaken endFieldsOf
   end-first end e =
-      either (next-from (endFieldsOf s (day .groups)) _ e) (λ h. never (sym (need-past _ 14 _ _ h (λ z. omega (arith, o .high))))) (λ d h f. never (sym f))
+      either (next-from (endFieldsOf s (day .groups)) _ e) (λ h. never (sym (need-past _ 14 _ _ h (apart-from n 14 refl o)))) (λ d h f. never (sym f))
 
   abbrev units : Reply ℕ
   units = unitsOf s L.groupLength 0 (day .«record» .run) (day .«record» .«margin_limit») (L.groupAt s 0 .count)
@@ -185,8 +197,8 @@ module _ (day : Day) (s : List ℕ) (n p : ℕ) (o : Own n) where
   group-first h =
       let a = need-past _ 4 _ _ h (λ z. omega (arith, o .low)) in
       let b = need-past _ 5 _ _ a (λ z. omega (arith, o .low)) in
-      let c = need-past _ 13 _ _ b (λ z. omega (arith, o .high)) in
-      never (sym (need-past _ 10 _ _ c (o .apart)))
+      let c = need-past _ 13 _ _ b (apart-from n 13 refl o) in
+      never (sym (need-past _ _ _ _ c (of-position (λ m. n ≡ m → ⊥) (apart-from n 17 refl o) (apart-from n 10 refl o) (day .«record» .run) (L.groupAt s 0 .made))))
 
   group-read : {g : GroupRecord} → groupFieldsOf s (day .«record») (day .last) ≡ is g → g ≡ L.groupAt s 0
   unfolding groupFieldsOf
@@ -206,7 +218,7 @@ module _ (day : Day) (s : List ℕ) (n p : ℕ) (o : Own n) where
   block-first : (room : ℕ) → blockTaken day s room ≡ refused n p → units ≡ refused n p
   unfolding blockTaken
   block-first room e =
-      either (next-from (blockFieldsOf day s) _ e) (λ h. fields-first h) (λ b h f. never (sym (need-past _ 12 _ _ f (λ z. omega (arith, o .high)))))
+      either (next-from (blockFieldsOf day s) _ e) (λ h. fields-first h) (λ b h f. never (sym (need-past _ 12 _ _ f (apart-from n 12 refl o))))
 
   -- the block lies whole in front as far as its group record goes, and its units are refused
   record Reached : Type 0 where

@@ -161,6 +161,8 @@ findingOf day s W.Room place at before = N.Room
 findingOf day s W.BlockOrder place at before = N.NotAfter (day .last)
 findingOf day s W.EndCount place at before = toldOf s at F.Groups (H.Accepted (day .groups))
 findingOf day s W.Columns place at before = N.Columns
+findingOf day s W.PositionAhead place at before = positionsFinding s at (day .«record»)
+findingOf day s W.MarginAhead place at before = marginsFinding s at (day .«record»)
 
 -- the refusal of bytes that were offered to a day
 unfoldable pub namedOf : Day → List ℕ → Refusal → Named

@@ -39,6 +39,8 @@ ofUnit W.Room = false
 ofUnit W.BlockOrder = false
 ofUnit W.EndCount = false
 ofUnit W.Columns = false
+ofUnit W.PositionAhead = false
+ofUnit W.MarginAhead = true
 
 -- the field at fault, and what it is held against: the unit's record begins at a place, and the one before it at another
 abbrev pub faultField : Fault → UnitField
@@ -52,6 +54,7 @@ faultField A.Pc = U.Pc
 faultField A.StepDown = U.StepDown
 faultField A.StepUp = U.StepUp
 faultField A.Crossed = U.StepUp
+faultField A.Ahead = U.Made
 faultField A.Age = U.Made
 
 abbrev pub faultHeld : DayRecord → List ℕ → ℕ → ℕ → Fault → Held
@@ -65,6 +68,7 @@ faultHeld d s at before A.Pc = H.Range
 faultHeld d s at before A.StepDown = H.Range
 faultHeld d s at before A.StepUp = H.Range
 faultHeld d s at before A.Crossed = H.AtLeast (L.valueAt s at L.unitStepDown)
+faultHeld d s at before A.Ahead = ageHeld (d .run) (L.valueAt s at L.unitMade) (d .«margin_limit»)
 faultHeld d s at before A.Age = ageHeld (d .run) (L.valueAt s at L.unitMade) (d .«margin_limit»)
 
 -- The units before it pass, it does not, and the place is its own record's and then the field's; BRP, zone and quarter are the block's own, the number is its own.

@@ -336,6 +336,8 @@ fn finding_of(day: Day, s: &[u8], why: Why, place: usize, at: usize, before: usi
         Why::BlockOrder => Finding::NotAfter(last),
         Why::EndCount => tell(s, at, Field::Groups, Held::Accepted(day.groups)),
         Why::Columns => Finding::Columns,
+        Why::PositionAhead => positions_finding(s, at, d),
+        Why::MarginAhead => margins_finding(s, at, d),
     }
 }
 

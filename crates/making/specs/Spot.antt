@@ -41,6 +41,7 @@ faultSpot u F.Pc = Value unitKind 6 (u .pc .0)
 faultSpot u F.StepDown = Value unitKind 7 (u .«step_down»)
 faultSpot u F.StepUp = Value unitKind 8 (u .«step_up»)
 faultSpot u F.Crossed = Value unitKind 7 (u .«step_down»)
+faultSpot u F.Ahead = Value unitKind 9 (pos 0)
 faultSpot u F.Age = Value unitKind 9 (pos 0)
 
 -- ---- the word as it was found, for a person to read: at most 40 bytes, and '?' for what is not printable

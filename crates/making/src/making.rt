@@ -70,6 +70,7 @@ fn fault_spot(u: UnitRecord, fault: Fault) -> Spot
         Fault::StepDown => Spot::Value(UnitRecord::KIND, 7, u.step_down),
         Fault::StepUp => Spot::Value(UnitRecord::KIND, 8, u.step_up),
         Fault::Crossed => Spot::Value(UnitRecord::KIND, 7, u.step_down),
+        Fault::Ahead => Spot::Value(UnitRecord::KIND, 9, 0),
         Fault::Age => Spot::Value(UnitRecord::KIND, 9, 0),
     }
 }

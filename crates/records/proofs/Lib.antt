@@ -8,6 +8,7 @@ pub mod Accepted
 pub mod Marks
 pub mod Unique
 pub mod Read
+pub mod Ages
 pub mod Places
 pub mod Alike
 pub mod Sayable

@@ -12,7 +12,8 @@ use Rattle.terms.specs.declared.refusal.Checked.{Checked}
 use Rattle.terms.specs.declared.refusal.Checked.the-variants.{Fine, Faulty}
 use Rattle.records.specs.declared.day.DayRecord.{DayRecord}
 use Rattle.records.specs.declared.key.Last.{Last}
-use Rattle.records.specs.Reading.{headOf, dayFieldsOf, groupFieldsOf, endFieldsOf, unitHeadOf, unitEnd, unitFieldsOf, unitOf, unitsOf}
+use Rattle.records.specs.Layouts.{groupAt}
+use Rattle.records.specs.Reading.{positionWhy, headOf, dayFieldsOf, groupFieldsOf, endFieldsOf, unitHeadOf, unitEnd, unitFieldsOf, unitOf, unitsOf}
 
 pub data Sayable {A : Type 0} : Reply A → Type 0 where
   value : (a : A) → Sayable (is a)
@@ -40,7 +41,7 @@ module _ (s : List ℕ) where
 
   pub say-group : (d : DayRecord) (last : Last) → Sayable (groupFieldsOf s d last)
   unfolding groupFieldsOf
-  say-group d last = say-need _ W.Quarter _ (say-need _ W.UnitCount _ (say-need _ W.BlockOrder _ (say-need _ W.PositionAge _ (value _))))
+  say-group d last = say-need _ W.Quarter _ (say-need _ W.UnitCount _ (say-need _ W.BlockOrder _ (say-need _ (positionWhy (d .run) (groupAt s 0 .made)) _ (value _))))
 
   pub say-end : (groups : ℕ) → Sayable (endFieldsOf s groups)
   unfolding endFieldsOf

@@ -22,6 +22,7 @@ place-within F.Pc = omega arith
 place-within F.StepDown = omega arith
 place-within F.StepUp = omega arith
 place-within F.Crossed = omega arith
+place-within F.Ahead = omega arith
 place-within F.Age = omega arith
 
 -- so many units from a place and a least number on

@@ -8,9 +8,11 @@ use lib.ListN.{length}
 use Rattle.numbers.specs.Bytes.{byteAt}
 use Rattle.numbers.specs.Choice.{pick, eqZ}
 use Rattle.terms.specs.Reply.{Reply, is, need, next}
-use Rattle.terms.specs.Refusals.{check, passed}
+use Rattle.terms.specs.Refusals.{numberOf, check, passed}
 use Rattle.terms.specs.Quantities.{knownClass}
 use Rattle.terms.specs.Checks.{isFlag, unitCount, amountChecks}
+use Rattle.terms.specs.declared.refusal.Why.{Why}
+use Rattle.terms.specs.declared.refusal.Why.the-variants as W
 use Rattle.terms.specs.declared.refusal.Fault.{Fault}
 use Rattle.terms.specs.declared.refusal.Fault.the-variants as F
 use Rattle.terms.specs.declared.refusal.Checked.{Checked}
@@ -39,6 +41,17 @@ headOf s at kind len =
 -- an age is run minute less made minute; it must be 0 up to the limit
 abbrev pub aged : ℕ → ℕ → ℕ → Bool
 aged run made limit = leb made run && leb (run - made) limit
+
+-- made after the run: a clock is wrong
+abbrev pub madeAfter : ℕ → ℕ → Bool
+madeAfter run made = ltb run made
+
+-- what is not aged was made after the run, or else is stale: 17 or 10 of positions, 18 or 11 of margins
+abbrev pub positionWhy : ℕ → ℕ → Why
+positionWhy run made = pick (madeAfter run made) W.PositionAhead W.PositionAge
+
+abbrev pub marginFault : ℕ → ℕ → Fault
+marginFault run made = pick (madeAfter run made) F.Ahead F.Age
 
 -- ---- the day record
 -- the quarters of a day
@@ -80,7 +93,7 @@ groupFieldsOf s day last =
     need (ltb (groupAt s 0 .quarter) (day .quarters)) 4 (groupQuarter .place)
     (need (unitCount (groupAt s 0 .count)) 5 (groupCount .place)
     (need (follows last (keyOf (groupAt s 0))) 13 (groupBrp .place)
-    (need (aged (day .run) (groupAt s 0 .made) (day .«position_limit»)) 10 (groupMade .place)
+    (need (aged (day .run) (groupAt s 0 .made) (day .«position_limit»)) (numberOf (positionWhy (day .run) (groupAt s 0 .made))) (groupMade .place)
     (is (groupAt s 0)))))
 
 abbrev pub groupHeadOf : List ℕ → Reply ℕ
@@ -142,7 +155,7 @@ valueFaults u floor = also (markFaults u floor) (amountChecks (u .n .0) (u .pc .
 
 -- the same, and then the age of its margins
 unfoldable pub unitFaults : UnitRecord → ℕ → ℕ → ℕ → Checked
-unitFaults u floor run limit = also (valueFaults u floor) (check (aged run (u .made) limit) F.Age Fine)
+unitFaults u floor run limit = also (valueFaults u floor) (check (aged run (u .made) limit) (marginFault run (u .made)) Fine)
 
 -- the place in the record of what is at fault
 abbrev pub faultPlace : Fault → ℕ
@@ -156,6 +169,7 @@ faultPlace F.Pc = unitPc .place
 faultPlace F.StepDown = unitStepDown .place
 faultPlace F.StepUp = unitStepUp .place
 faultPlace F.Crossed = unitStepUp .place
+faultPlace F.Ahead = unitMade .place
 faultPlace F.Age = unitMade .place
 
 unfoldable pub unitFieldsOf : List ℕ → ℕ → ℕ → ℕ → ℕ → Reply UnitRecord

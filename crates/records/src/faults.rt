@@ -11,6 +11,7 @@ ghost use Rattle.terms.specs.declared.refusal.Fault.the-variants.{NotNominated}
 ghost use Rattle.records.specs.Reading.{markFaults, valueFaults, unitFaults};
 ghost use Rattle.records.specs.Inner.{marksPass};
 use crate::age::is_aged;
+use crate::age::margin_fault;
 use crate::unit::UnitRecord;
 use terms::check::amounts;
 use terms::check::class;
@@ -75,7 +76,7 @@ pub fn unit_faults(u: UnitRecord, floor: u32, run: u32, limit: u16) -> Checked
     if is_aged(run, u.made, limit) {
         return Checked::Fine;
     }
-    Checked::Faulty(Fault::Age)
+    Checked::Faulty(margin_fault(run, u.made))
 }
 
 // Whether a unit passes in all but the range of N and its margins, which are asked of all units at once.

@@ -4,11 +4,13 @@ ghost use Prim.Native.Nat.{_≤_};
 ghost use lib.Dec.{ltb};
 ghost use lib.ListN.{length};
 ghost use Rattle.terms.specs.Reply.{is, need};
+ghost use Rattle.terms.specs.Refusals.{numberOf};
 ghost use Rattle.terms.specs.Checks.{unitCount};
 ghost use Rattle.records.specs.Answers.{byteReply, numberReply, keyReply, groupReply, groupRefusal};
 ghost use Rattle.records.specs.Layouts.{groupLength, groupBrp, groupQuarter, groupCount, groupMade, groupWith, groupAt};
-ghost use Rattle.records.specs.Reading.{aged, follows, keyOf, groupFieldsOf, groupOf};
+ghost use Rattle.records.specs.Reading.{aged, positionWhy, follows, keyOf, groupFieldsOf, groupOf};
 use crate::age::is_aged;
+use crate::age::position_why;
 use crate::day::DayRecord;
 use crate::field::ByteAnswer;
 use crate::field::NumberAnswer;
@@ -134,14 +136,14 @@ fn key_at(s: &[u8], last: Last) -> KeyAnswer
 
 fn made_at(s: &[u8], run: u32, limit: u16) -> NumberAnswer
     requires { ⌜ groupLength ≤ length (now s) ⌝ }
-    ensures { λ r. ⌜ numberReply r ≡ need (aged run (groupAt (now (s .entry)) 0 .made) limit) 10 (groupMade .place) (is (groupAt (now (s .entry)) 0 .made)) ⌝ }
+    ensures { λ r. ⌜ numberReply r ≡ need (aged run (groupAt (now (s .entry)) 0 .made) limit) (numberOf (positionWhy run (groupAt (now (s .entry)) 0 .made))) (groupMade .place) (is (groupAt (now (s .entry)) 0 .made)) ⌝ }
 {
     let made = u32_at(s, GroupRecord::MADE);
     if is_aged(run, made, limit) {
         return NumberAnswer::Is(made);
     }
     NumberAnswer::Refused(Refusal {
-        why: Why::PositionAge,
+        why: position_why(run, made),
         place: GroupRecord::MADE,
     })
 }

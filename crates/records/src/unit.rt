@@ -108,6 +108,7 @@ impl UnitRecord {
             Fault::StepDown => UnitRecord::STEP_DOWN,
             Fault::StepUp => UnitRecord::STEP_UP,
             Fault::Crossed => UnitRecord::STEP_UP,
+            Fault::Ahead => UnitRecord::MADE,
             Fault::Age => UnitRecord::MADE,
         }
     }

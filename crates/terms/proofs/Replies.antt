@@ -1,4 +1,4 @@
--- What a reading that was not refused has passed, by cases on its tests.
+-- What a reading that was not refused has passed, and one that was, by cases on its tests.
 use Prim.Native.Nat.{ℕ}
 use mathlib.Core.Path.{_≡_, refl}
 use mathlib.Core.Bool.{Bool, true, false}
@@ -14,6 +14,14 @@ pub need-is : {A : Type 0} (t : Bool) (n p : ℕ) (rest : Reply A) {a : A} → n
 unfolding need
 need-is true n p rest e = (refl, e)
 need-is false n p rest e = never e
+
+-- a refusal by another number than a test's came after it
+pub need-past : {A : Type 0} (t : Bool) (m q : ℕ) (rest : Reply A) {n p : ℕ} → need t m q rest ≡ refused n p → (n ≡ m → ⊥) → rest ≡ refused n p
+unfolding need
+need-past true m q rest e h = e
+need-past false m q rest {n} {p} e h =
+    let z : n ≡ m = cc in
+    absurd (h z)
 
 pub next-is : {A B : Type 0} (x : Reply A) (rest : A → Reply B) {b : B} → next x rest ≡ is b → (a : A) × ((x ≡ is a) × (rest a ≡ is b))
 unfolding next

@@ -11,7 +11,7 @@ use Rattle.terms.specs.declared.refusal.Refusal.{Refusal}
 use Rattle.terms.specs.declared.refusal.Answer.{Answer}
 use Rattle.terms.specs.declared.refusal.Answer.the-variants as A
 
--- the reasons by their numbers; there is no number 0
+-- the reasons by their numbers; there is no number 0 and no 16
 whys : List Why
 whys =
     W.CutShort
@@ -30,6 +30,9 @@ whys =
     ∷ W.BlockOrder
     ∷ W.EndCount
     ∷ W.Columns
+    ∷ W.CutShort
+    ∷ W.PositionAhead
+    ∷ W.MarginAhead
     ∷ []
 
 whyBy : ℕ → Why
@@ -52,6 +55,8 @@ back W.Room = refl
 back W.BlockOrder = refl
 back W.EndCount = refl
 back W.Columns = refl
+back W.PositionAhead = refl
+back W.MarginAhead = refl
 
 pub why-same : (v w : Why) → numberOf v ≡ numberOf w → v ≡ w
 why-same v w e = sym (back v) ∙ ap whyBy e ∙ back w

@@ -28,6 +28,8 @@ numberOf W.Room = 12
 numberOf W.BlockOrder = 13
 numberOf W.EndCount = 14
 numberOf W.Columns = 15
+numberOf W.PositionAhead = 17
+numberOf W.MarginAhead = 18
 
 -- a refusal as a reply
 abbrev pub refusal : {A : Type 0} → Refusal → Reply A
@@ -59,6 +61,7 @@ whyOf F.Pc = W.Range
 whyOf F.StepDown = W.Range
 whyOf F.StepUp = W.Range
 whyOf F.Crossed = W.Crossed
+whyOf F.Ahead = W.MarginAhead
 whyOf F.Age = W.MarginAge
 
 -- the fault, unless the test holds: the first test that fails ends the checks of a unit

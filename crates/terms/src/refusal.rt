@@ -2,7 +2,7 @@
 ghost use mathlib.Core.Path.{_≡_};
 ghost use Rattle.terms.specs.Refusals.{numberOf, whyOf, noRefusal, refusalOf};
 
-// The reasons for a refusal, in the order of their numbers, 1 to 15.
+// The reasons for a refusal, in the order of their numbers.
 pub enum Why {
     CutShort,
     Kind,
@@ -19,6 +19,8 @@ pub enum Why {
     BlockOrder,
     EndCount,
     Columns,
+    PositionAhead,
+    MarginAhead,
 }
 
 impl Why {
@@ -41,6 +43,8 @@ impl Why {
             Why::BlockOrder => 13,
             Why::EndCount => 14,
             Why::Columns => 15,
+            Why::PositionAhead => 17,
+            Why::MarginAhead => 18,
         }
     }
 }
@@ -72,6 +76,7 @@ pub enum Fault {
     StepDown,
     StepUp,
     Crossed,
+    Ahead,
     Age,
 }
 
@@ -90,6 +95,7 @@ impl Fault {
             Fault::StepDown => Why::Range,
             Fault::StepUp => Why::Range,
             Fault::Crossed => Why::Crossed,
+            Fault::Ahead => Why::MarginAhead,
             Fault::Age => Why::MarginAge,
         }
     }

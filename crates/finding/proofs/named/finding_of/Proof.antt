@@ -88,6 +88,18 @@ tell-requires-5 c κs = search needs
 enum-told-15 : tie.Need-enum-told-15
 enum-told-15 c = search needs
 
+enum-told-16 : tie.Need-enum-told-16
+enum-told-16 c = search needs
+
+positions-finding-requires-2 : tie.Need-positions-finding-requires-2
+positions-finding-requires-2 c κs = search needs
+
+enum-told-17 : tie.Need-enum-told-17
+enum-told-17 c = search needs
+
+margins-finding-requires-2 : tie.Need-margins-finding-requires-2
+margins-finding-requires-2 c κs = search needs
+
 returns : tie.Need-returns
 unfolding findingOf
 returns c = rw (c .enum-told .given .1)
@@ -148,6 +160,14 @@ returns-15 : tie.Need-returns-15
 unfolding findingOf
 returns-15 c = rw (c .enum-told15 .given .1)
 
+returns-16 : tie.Need-returns-16
+unfolding findingOf
+returns-16 c = rw (c .before .enum-told16 .given .1) (c .positions-finding2 .ensures)
+
+returns-17 : tie.Need-returns-17
+unfolding findingOf
+returns-17 c = rw (c .before .enum-told17 .given .1) (c .margins-finding2 .ensures)
+
 pub finding-of-spec : {M : Type 1} → statement M
 finding-of-spec =
     tie.close
@@ -180,6 +200,10 @@ finding-of-spec =
     enum-told-14
     tell-requires-5
     enum-told-15
+    enum-told-16
+    positions-finding-requires-2
+    enum-told-17
+    margins-finding-requires-2
     returns
     returns-2
     returns-3
@@ -194,4 +218,6 @@ finding-of-spec =
     returns-12
     returns-13
     returns-14
-    returns-15)
+    returns-15
+    returns-16
+    returns-17)

@@ -53,6 +53,9 @@ enum-told-10 c = search needs
 enum-told-11 : tie.Need-enum-told-11
 enum-told-11 c = search needs
 
+enum-told-12 : tie.Need-enum-told-12
+enum-told-12 c = search needs
+
 returns : tie.Need-returns
 returns c =
     let h : c .before .before .before .args .u .number < 2 ^ hbits w32 = omega arith in
@@ -94,6 +97,9 @@ returns-10 c = rw (c .before .enum-told10 .given .1) (search needs)
 returns-11 : tie.Need-returns-11
 returns-11 c = rw (c .enum-told11 .given .1)
 
+returns-12 : tie.Need-returns-12
+returns-12 c = rw (c .enum-told12 .given .1)
+
 pub fault-spot-spec : {M : Type 1} → statement M
 fault-spot-spec =
     tie.close
@@ -113,6 +119,7 @@ fault-spot-spec =
     enum-told-9
     enum-told-10
     enum-told-11
+    enum-told-12
     returns
     returns-2
     returns-3
@@ -123,4 +130,5 @@ fault-spot-spec =
     returns-8
     returns-9
     returns-10
-    returns-11)
+    returns-11
+    returns-12)

@@ -29,14 +29,18 @@ returns-2 c =
     let age = sym (c .before .is-aged .ensures) ∙ c .if1 .taken in
     rw (← (faults .faults .ensures), c .before .before .enum-told .given .1, age)
 
+margin-fault-requires : tie.Need-margin-fault-requires
+margin-fault-requires c κs = search needs
+
 returns-3 : tie.Need-returns-3
 unfolding unitFaults also check
 returns-3 c =
-    let faults = c .before .before .before .before in
-    let age = sym (c .before .is-aged .ensures) ∙ c .if1 .left in
-    rw (← (faults .faults .ensures), c .before .before .enum-told .given .1, age)
+    let left = c .before in
+    let faults = left .before .before .before .before in
+    let age = sym (left .before .is-aged .ensures) ∙ left .if1 .left in
+    rw (← (faults .faults .ensures), left .before .before .enum-told .given .1, age, c .margin-fault .ensures)
 
 pub unit-faults-spec : {M : Type 1} → statement M
 unit-faults-spec =
     tie.close
-    (tie.spec faults-requires enum-told enum-told-2 returns is-aged-requires returns-2 returns-3)
+    (tie.spec faults-requires enum-told enum-told-2 returns is-aged-requires returns-2 margin-fault-requires returns-3)

@@ -1,4 +1,4 @@
--- The answer for the minute of a group's positions is the test of their age: by what `is_aged` told.
+-- The answer for the minute of a group's positions: by what `is_aged` told, and where it fails by what `position_why` told.
 use mathlib.Core.Path.{sym, _∙_}
 use Rattle.terms.specs.Reply.{need}
 use Rattle.records.specs.Layouts.{groupAt}
@@ -16,9 +16,14 @@ returns : tie.Need-returns
 unfolding need groupAt
 returns c = rw (← (c .before .before .u32-at .ensures)) (simp (sym (c .before .is-aged .ensures) ∙ c .if1 .taken))
 
+position-why-requires : tie.Need-position-why-requires
+position-why-requires c κs = search needs
+
 returns-2 : tie.Need-returns-2
 unfolding need groupAt
-returns-2 c = rw (← (c .before .before .u32-at .ensures)) (simp (sym (c .before .is-aged .ensures) ∙ c .if1 .left))
+returns-2 c =
+    let left = c .before in
+    rw (← (left .before .before .u32-at .ensures), c .position-why .ensures) (simp (sym (left .before .is-aged .ensures) ∙ left .if1 .left))
 
 pub made-at-spec : {M : Type 1} → statement M
-made-at-spec = tie.close (tie.spec u32-at-requires is-aged-requires returns returns-2)
+made-at-spec = tie.close (tie.spec u32-at-requires is-aged-requires returns position-why-requires returns-2)

@@ -1,0 +1,158 @@
+-- Late or early: what is not aged was made after the run or is stale, never both, and its number tells which.
+use Prim.Native.Nat.{ℕ, _-_, _≤_, _<_}
+use mathlib.Core.Path.{_≡_, refl, sym, _∙_}
+use mathlib.Core.Bool.{Bool, true, false, not}
+use mathlib.Core.List.{List}
+use native.Mathlib.Omega.{arith}
+use borrow.Author.Tests.{ltb-true, ltb-false, leb-false, lt-leb, le-leb}
+use Rattle.numbers.specs.Choice.{pick}
+use Rattle.terms.specs.Reply.{Reply, is, refused, need}
+use Rattle.terms.specs.Refusals.{numberOf, whyOf, check}
+use Rattle.terms.specs.Checks.{amountChecks, marginChecks}
+use Rattle.terms.specs.declared.refusal.Why.the-variants as W
+use Rattle.terms.specs.declared.refusal.Fault.{Fault}
+use Rattle.terms.specs.declared.refusal.Fault.the-variants as F
+use Rattle.terms.specs.declared.refusal.Checked.{Checked}
+use Rattle.terms.specs.declared.refusal.Checked.the-variants.{Fine, Faulty}
+use Rattle.terms.proofs.Replies.{never, need-past}
+use Rattle.records.specs.declared.day.DayRecord.{DayRecord}
+use Rattle.records.specs.declared.unit.UnitRecord.{UnitRecord}
+use Rattle.records.specs.declared.key.Last.{Last}
+use Rattle.records.specs.Layouts.{groupAt}
+use Rattle.records.specs.Reading.{aged, madeAfter, positionWhy, marginFault, also, markFaults, valueFaults, unitFaults, groupFieldsOf}
+
+module _ (run made limit : ℕ) where
+  -- what was made after the run is not aged
+  ahead-not-aged : madeAfter run made ≡ true → aged run made limit ≡ false
+  ahead-not-aged e = simp (lt-leb made run (ltb-true run made e))
+
+  -- what is not aged and was not made after the run is older than the limit
+  stale : madeAfter run made ≡ false → aged run made limit ≡ false → (made ≤ run) × (limit < run - made)
+  stale e h =
+      let m : made ≤ run = ltb-false run made e in
+      (m, leb-false (run - made) limit (sym (rw (le-leb made run m)) ∙ h))
+
+  -- one test and its number are two tests in turn: 17 and then 10
+  pub position-in-turn : {A : Type 0} (place : ℕ) (rest : Reply A)
+      → need (aged run made limit) (numberOf (positionWhy run made)) place rest
+      ≡ need (not (madeAfter run made)) 17 place (need (aged run made limit) 10 place rest)
+  unfolding need
+  position-in-turn place rest = go (madeAfter run made) refl
+    where
+      go : (t : Bool) → madeAfter run made ≡ t
+          → need (aged run made limit) (numberOf (pick t W.PositionAhead W.PositionAge)) place rest ≡ need (not t) 17 place (need (aged run made limit) 10 place rest)
+      go true e = rw (ahead-not-aged e)
+      go false e = refl
+
+  -- and so of margins: 18 and then 11
+  pub margin-in-turn : check (aged run made limit) (marginFault run made) Fine ≡ check (not (madeAfter run made)) F.Ahead (check (aged run made limit) F.Age Fine)
+  unfolding check
+  margin-in-turn = go (madeAfter run made) refl
+    where
+      go : (t : Bool) → madeAfter run made ≡ t
+          → check (aged run made limit) (pick t F.Ahead F.Age) Fine ≡ check (not t) F.Ahead (check (aged run made limit) F.Age Fine)
+      go true e = rw (ahead-not-aged e)
+      go false e = refl
+
+-- what holds of 17 and of 10 holds of the number of positions that are not aged
+pub of-position : (P : ℕ → Type 0) → P 17 → P 10 → (run made : ℕ) → P (numberOf (positionWhy run made))
+of-position P ahead old run made = go (madeAfter run made)
+  where
+    go : (t : Bool) → P (numberOf (pick t W.PositionAhead W.PositionAge))
+    go true = ahead
+    go false = old
+
+-- ---- what a refusal of positions by 10 or 17 tells
+ends : {A : Type 0} (t : Bool) (m q : ℕ) (a : A) {n p : ℕ} → need t m q (is a) ≡ refused n p → (t ≡ false) × (m ≡ n)
+unfolding need
+ends true m q a e = never (sym e)
+ends false m q a e = (refl, cc)
+
+is-stale : (t : Bool) → numberOf (pick t W.PositionAhead W.PositionAge) ≡ 10 → t ≡ false
+is-stale true e = absurd (omega (arith, e))
+is-stale false e = refl
+
+is-ahead : (t : Bool) → numberOf (pick t W.PositionAhead W.PositionAge) ≡ 17 → t ≡ true
+is-ahead true e = refl
+is-ahead false e = absurd (omega (arith, e))
+
+module _ (s : List ℕ) (day : DayRecord) (last : Last) {p : ℕ} where
+  -- the tests before the age's have other numbers
+  by-age : (n : ℕ) → (n ≡ 4 → ⊥) → (n ≡ 5 → ⊥) → (n ≡ 13 → ⊥) → groupFieldsOf s day last ≡ refused n p
+      → (aged (day .run) (groupAt s 0 .made) (day .«position_limit») ≡ false) × (numberOf (positionWhy (day .run) (groupAt s 0 .made)) ≡ n)
+  unfolding groupFieldsOf
+  by-age n quarter count key e = ends _ _ _ _ (need-past _ 13 _ _ (need-past _ 5 _ _ (need-past _ 4 _ _ e quarter) count) key)
+
+  pub positions-stale : groupFieldsOf s day last ≡ refused 10 p
+      → (groupAt s 0 .made ≤ day .run) × (day .«position_limit» < day .run - groupAt s 0 .made)
+  positions-stale e =
+      let h = by-age 10 (λ z. omega arith) (λ z. omega arith) (λ z. omega arith) e in
+      stale _ _ _ (is-stale _ (h .1)) (h .0)
+
+  pub positions-ahead : groupFieldsOf s day last ≡ refused 17 p → day .run < groupAt s 0 .made
+  positions-ahead e =
+      let h = by-age 17 (λ z. omega arith) (λ z. omega arith) (λ z. omega arith) e in
+      ltb-true _ _ (is-ahead _ (h .1))
+
+-- ---- what a fault of margins, 11 or 18, tells
+-- every fault of these checks has a number up to 9
+abbrev Early : Checked → Type 0
+Early c = (fault : Fault) → c ≡ Faulty fault → numberOf (whyOf fault) ≤ 9
+
+early-check : (t : Bool) (fault : Fault) (rest : Checked) → numberOf (whyOf fault) ≤ 9 → Early rest → Early (check t fault rest)
+unfolding check
+early-check true fault rest low h other e = h other e
+early-check false fault rest low h other e =
+    let z : fault ≡ other = cc in
+    rw z at low
+
+early-also : (c rest : Checked) → Early c → Early rest → Early (also c rest)
+unfolding also
+early-also Fine rest h k = k
+early-also (Faulty fault) rest h k = h
+
+early-fine : Early Fine
+early-fine fault e =
+    let z : _≡_ {A = ℕ} 0 1 = cc in
+    absurd (omega arith)
+
+module _ (u : UnitRecord) (floor run limit : ℕ) where
+  values-early : Early (valueFaults u floor)
+  unfolding valueFaults markFaults amountChecks marginChecks
+  values-early =
+      early-also _ _
+      (early-check _ F.Number _ (omega arith) (early-check _ F.Class _ (omega arith) (early-check _ F.Coincide _ (omega arith)
+      (early-check _ F.Nominated _ (omega arith) (early-check _ F.NotNominated _ (omega arith) early-fine)))))
+      (early-check _ F.N _ (omega arith) (early-check _ F.Pc _ (omega arith) (early-check _ F.StepDown _ (omega arith)
+      (early-check _ F.StepUp _ (omega arith) (early-check _ F.Crossed _ (omega arith) early-fine)))))
+
+  -- a fault of a higher number is the age's
+  by-margins : (fault : Fault) → 9 < numberOf (whyOf fault) → unitFaults u floor run limit ≡ Faulty fault
+      → (aged run (u .made) limit ≡ false) × (marginFault run (u .made) ≡ fault)
+  unfolding unitFaults also check
+  by-margins fault high = go (valueFaults u floor) values-early
+    where
+      tested : (t : Bool) → check t (marginFault run (u .made)) Fine ≡ Faulty fault → (t ≡ false) × (marginFault run (u .made) ≡ fault)
+      tested true e = absurd (omega (arith, early-fine fault e))
+      tested false e = (refl, cc)
+
+      go : (c : Checked) → Early c → also c (check (aged run (u .made) limit) (marginFault run (u .made)) Fine) ≡ Faulty fault
+          → (aged run (u .made) limit ≡ false) × (marginFault run (u .made) ≡ fault)
+      go Fine h e = tested _ e
+      go (Faulty other) h e = absurd (omega (arith, h fault e))
+
+  pub margins-stale : unitFaults u floor run limit ≡ Faulty F.Age → (u .made ≤ run) × (limit < run - u .made)
+  margins-stale e =
+      let h = by-margins F.Age (omega arith) e in
+      stale run (u .made) limit (go (madeAfter run (u .made)) (h .1)) (h .0)
+    where
+      go : (t : Bool) → pick t F.Ahead F.Age ≡ F.Age → t ≡ false
+      go true e = cc
+      go false e = refl
+
+  pub margins-ahead : unitFaults u floor run limit ≡ Faulty F.Ahead → run < u .made
+  margins-ahead e = ltb-true run (u .made) (go (madeAfter run (u .made)) (by-margins F.Ahead (omega arith) e .1))
+    where
+      go : (t : Bool) → pick t F.Ahead F.Age ≡ F.Ahead → t ≡ true
+      go true e = refl
+      go false e = cc
