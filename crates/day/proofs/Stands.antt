@@ -17,9 +17,9 @@ use Rattle.terms.specs.declared.refusal.Checked.{Checked}
 use Rattle.terms.specs.declared.refusal.Checked.the-variants.{Fine, Faulty}
 use Rattle.records.specs.declared.group.GroupRecord.{GroupRecord}
 use Rattle.records.specs.declared.unit.UnitRecord.{UnitRecord}
-use Rattle.records.specs.Layouts.{groupLength, groupAt, unitLength, unitAt, lengthOf}
+use Rattle.records.specs.Layouts.{groupLength, groupAt, unitLength, unitAt, lengthOf, longestUnit}
 use Rattle.records.specs.Reading.{headOf, unitHeadOf, unitEnd, placeFrom, dayFieldsOf, groupFieldsOf, endFieldsOf, faultPlace, unitFaults, unitFieldsOf, unitOf, unitsOf}
-use Rattle.records.specs.Longest.{longestUnit, longestBlock}
+use Rattle.records.specs.Longest.{longestBlock}
 use Rattle.records.proofs.Alike.{Agree, agree, day-kept, group-kept, end-kept, units-same}
 use Rattle.records.proofs.UnitHeads.{unit-most, read-long, unit-long}
 use Rattle.records.proofs.Read.{group-passed}

@@ -7,7 +7,7 @@ use Rattle.terms.specs.Reply.{Reply}
 use Rattle.terms.specs.declared.refusal.Fault.{Fault}
 use Rattle.terms.specs.declared.refusal.Fault.the-variants as F
 use Rattle.terms.proofs.FirstRefused.{Steps}
-use Rattle.records.specs.Longest.{longestUnit}
+use Rattle.records.specs.Layouts.{longestUnit}
 use Rattle.records.specs.Reading.{faultPlace, unitEnd, unitOf, unitsOf}
 
 -- what is at fault stands within the longest record

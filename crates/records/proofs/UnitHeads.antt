@@ -10,8 +10,7 @@ use Rattle.numbers.specs.Bytes.{byteAt}
 use Rattle.terms.specs.Reply.{is, need}
 use Rattle.terms.proofs.Replies.{next-is}
 use Rattle.records.specs.declared.unit.UnitRecord.{UnitRecord}
-use Rattle.records.specs.Layouts.{unitKind, unitLength, unitAt, lengthOf}
-use Rattle.records.specs.Longest.{longestUnit}
+use Rattle.records.specs.Layouts.{unitKind, unitLength, unitAt, lengthOf, longestUnit}
 use Rattle.records.specs.Reading.{headOf, unitHeadOf, unitEnd, unitOf}
 use Rattle.records.specs.Inner.{isWhole}
 use Rattle.records.proofs.Heads.{headed, head-end, whole-head, whole-headed}

@@ -245,6 +245,10 @@ unitBytes u = behind (unitKind ∷ []) (unitTable u)
 abbrev pub lengthOf : UnitRecord → ℕ
 lengthOf u = unitLength
 
+-- no unit record is longer
+abbrev pub longestUnit : ℕ
+longestUnit = unitLength
+
 -- the margins that the steps work with
 abbrev pub marginsOf : UnitRecord → Margins
 marginsOf u = record { «step_down» = u .«step_down»; «step_up» = u .«step_up» }
