@@ -167,6 +167,10 @@ groupBytes g = behind (groupKind ∷ []) (groupTable g)
 abbrev pub unitKind : ℕ
 unitKind = 3
 
+-- a record of this kind is a unit's
+abbrev pub isUnit : ℕ → Bool
+isUnit kind = eqb kind unitKind
+
 abbrev pub unitLength : ℕ
 unitLength = 26
 
