@@ -19,8 +19,8 @@ use Rattle.records.specs.Layouts.{dayKind, dayLength, dayAt, groupKind, groupLe
 use Rattle.records.specs.Reading.{permitted, headOf, dayFieldsOf, dayOf, groupFieldsOf, groupOf, endFieldsOf, endOf, unitsOf, unitPlace}
 use Rattle.records.proofs.Heads.{whole-head}
 use Rattle.records.proofs.Read.{group-passed}
+use Rattle.writers.specs.Columns.{columnsIn}
 use Rattle.writers.specs.Writing.{DayWritten, EndWritten, BlockWritten}
-use Rattle.writers.specs.Trips.{columnsIn}
 use Rattle.writers.proofs.Again.{day-again, end-again}
 use Rattle.writers.proofs.BlockAgain.{block-again}
 use Rattle.walk.specs.declared.table.State.{State}

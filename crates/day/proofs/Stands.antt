@@ -1,10 +1,10 @@
 -- A reply that is not 1 stands whatever bytes come behind: each test reads only bytes that are there, and only those of the length can turn out otherwise.
 use Prim.Native.Nat.{ℕ, zero, suc, _+_, _*_, _≤_, _<_}
 use mathlib.Core.Path.{_≡_, refl, sym, ap, _∙_}
-use mathlib.Core.Bool.{Bool, true, false}
+use mathlib.Core.Bool.{Bool, true, false, false≢true}
 use mathlib.Core.List.{List, _++_}
 use native.Mathlib.Omega.{arith}
-use borrow.Author.Tests.{ltb-true, ltb-false, leb-true, lt-ltb, le-leb}
+use borrow.Author.Tests.{ltb-true, ltb-false, leb-true, eqb-true, lt-ltb, le-leb}
 use lib.Dec.{eqb, ltb}
 use lib.ListN.{length}
 use lib.Seq.{take-append-le}
@@ -17,11 +17,11 @@ use Rattle.terms.specs.declared.refusal.Checked.{Checked}
 use Rattle.terms.specs.declared.refusal.Checked.the-variants.{Fine, Faulty}
 use Rattle.records.specs.declared.group.GroupRecord.{GroupRecord}
 use Rattle.records.specs.declared.unit.UnitRecord.{UnitRecord}
-use Rattle.records.specs.Layouts.{groupLength, groupAt, unitLength, unitAt, lengthOf}
-use Rattle.records.specs.Reading.{headOf, unitHeadOf, unitEnd, placeFrom, dayFieldsOf, groupFieldsOf, endFieldsOf, faultPlace, unitFaults, unitFieldsOf, unitOf, unitsOf}
-use Rattle.records.specs.Longest.{longestUnit, longestBlock}
+use Rattle.records.specs.Layouts.{groupLength, groupAt, unitAt, lengthOf, longestUnit}
+use Rattle.records.specs.Reading.{unitHeadOf, unitEnd, placeFrom, dayFieldsOf, groupFieldsOf, endFieldsOf, faultPlace, unitFaults, unitFieldsOf, unitOf, unitsOf}
+use Rattle.records.specs.Longest.{longestBlock}
 use Rattle.records.proofs.Alike.{Agree, agree, day-kept, group-kept, end-kept, units-same}
-use Rattle.records.proofs.UnitHeads.{unit-most, read-long, unit-long}
+use Rattle.records.proofs.UnitHeads.{unit-most, unit-there, unit-longer, read-long, unit-long}
 use Rattle.records.proofs.Read.{group-passed}
 use Rattle.records.proofs.Ages.{of-position}
 use Rattle.walk.specs.declared.table.State.{State}
@@ -39,6 +39,18 @@ use Rattle.day.proofs.ByKind.{head-came}
 -- the first reply, unless it is 1, is the second
 abbrev Stands : {A : Type 0} → Reply A → Reply A → Type 0
 Stands x y = cutShort x ≡ false → y ≡ x
+
+-- what is cut short is refused by 1, and nothing else is
+uncut : {A : Type 0} (x : Reply A) → cutShort x ≡ false → (p : ℕ) → x ≡ refused 1 p → ⊥
+uncut {A} x c p e = false≢true (sym c ∙ ap (λ (r : Reply A). cutShort r) e)
+
+uncut-by : {A : Type 0} (x : Reply A) → ((p : ℕ) → x ≡ refused 1 p → ⊥) → cutShort x ≡ false
+uncut-by (is a) h = refl
+uncut-by (refused n p) h = go (eqb n 1) refl
+  where
+    go : (t : Bool) → eqb n 1 ≡ t → t ≡ false
+    go true e = absurd (h p (rw (eqb-true n 1 e)))
+    go false e = refl
 
 -- ---- reply by reply
 module _ {A B : Type 0} where
@@ -69,12 +81,7 @@ module _ (s t : List ℕ) (a : Agree s t (length s)) where
   unit-same at h = units-same s t (length s) a at 0 h
 
   unit-head-stands : (at : ℕ) → Stands (unitHeadOf s at) (unitHeadOf t at)
-  unfolding headOf
-  unit-head-stands at =
-      there _ _ _ _ _ _ (λ e. lt-ltb at (length t) (omega (arith, ltb-true at (length s) e, a .long))) λ e.
-      rw (a .same at (ltb-true at (length s) e))
-      (tested _ _ _ 2 at
-      (there _ _ _ _ _ _ (λ f. le-leb (at + unitLength) (length t) (omega (arith, leb-true (at + unitLength) (length s) f, a .long))) λ f c. refl))
+  unit-head-stands at c = unit-longer s t at (a .long) (a .same at) (uncut (unitHeadOf s at) c)
 
   unit-stands : (at floor run limit : ℕ) → Stands (unitOf s at floor run limit) (unitOf t at floor run limit)
   unfolding unitOf unitFieldsOf
@@ -161,11 +168,8 @@ fault-other F.Age = refl
 
 module _ (s : List ℕ) where
   unit-enough : (at floor run limit : ℕ) → at + longestUnit ≤ length s → cutShort (unitOf s at floor run limit) ≡ false
-  unfolding unitOf unitFieldsOf headOf passed
-  unit-enough at floor run limit h =
-      goes _ _
-      (fits _ _ _ (lt-ltb at (length s) (omega arith)) (passes _ _ 2 at refl (fits _ _ _ (le-leb (at + unitLength) (length s) (omega arith)) refl)))
-      λ end e. go (unitFaults (unitAt s at) floor run limit)
+  unfolding unitOf unitFieldsOf passed
+  unit-enough at floor run limit h = goes _ _ (uncut-by (unitHeadOf s at) (unit-there s at h)) λ end e. go (unitFaults (unitAt s at) floor run limit)
     where
       go : (x : Checked) → cutShort (passed (λ fault. at + faultPlace fault) x (is (unitAt s at))) ≡ false
       go Fine = refl

@@ -9,10 +9,12 @@ use Rattle.terms.specs.Refusals.{numberOf, whyOf, passed}
 use Rattle.terms.specs.declared.refusal.Fault.{Fault}
 use Rattle.terms.specs.declared.refusal.Checked.{Checked}
 use Rattle.terms.specs.declared.refusal.Checked.the-variants.{Fine, Faulty}
-use Rattle.terms.proofs.Replies.{never, need-past}
+use Rattle.terms.proofs.Replies.{never}
 use Rattle.records.specs.declared.unit.UnitRecord.{UnitRecord}
 use Rattle.records.specs.Layouts.{unitAt}
-use Rattle.records.specs.Reading.{headOf, unitHeadOf, unitEnd, placeFrom, faultPlace, unitFaults, unitFieldsOf, unitOf, unitsOf}
+use Rattle.records.specs.Reading.{unitHeadOf, unitEnd, placeFrom, faultPlace, unitFaults, unitFieldsOf, unitOf, unitsOf}
+use Rattle.records.proofs.UnitHeads.{unit-head-no}
+use Rattle.records.proofs.Turns.{place-inside}
 use Rattle.records.proofs.Places.{place-later}
 
 -- a refusal came of the reading in front, or of what comes after it
@@ -34,37 +36,30 @@ either (after a h k) f g = g a h k
 
 -- a refusal of a unit's field: neither 1 nor 2
 module _ (n p : ℕ) (high : 3 ≤ n) where
-  -- a head is refused by 1 or 2 alone
-  pub head-no : (s : List ℕ) (at kind len : ℕ) → headOf s at kind len ≡ refused n p → ⊥
-  unfolding headOf
-  head-no s at kind len e =
-      let a = need-past _ 1 _ _ e (λ z. omega arith) in
-      let b = need-past _ 2 _ _ a (λ z. omega arith) in
-      never (sym (need-past _ 1 _ _ b (λ z. omega arith)))
-
   pub record Faulted (s : List ℕ) (at floor run limit : ℕ) : Type 0 where
     pub fault : Fault
     pub end : ℕ
     pub head : unitHeadOf s at ≡ is end
     pub number : n ≡ numberOf (whyOf fault)
     pub place : p ≡ at + faultPlace fault
+    pub within : p < unitEnd s at
 
-  checks-no : (s : List ℕ) (at floor run limit end : ℕ) → unitHeadOf s at ≡ is end → (checks : Checked)
+  checks-no : (s : List ℕ) (at floor run limit end : ℕ) → unitHeadOf s at ≡ is end → (checks : Checked) → unitFaults (unitAt s at) floor run limit ≡ checks
       → _≡_ {A = Reply UnitRecord} (passed (λ fault. at + faultPlace fault) checks (is (unitAt s at))) (refused n p) → Faulted s at floor run limit
   unfolding passed
-  checks-no s at floor run limit end h Fine e = never (sym e)
-  checks-no s at floor run limit end h (Faulty fault) e =
+  checks-no s at floor run limit end h Fine c e = never (sym e)
+  checks-no s at floor run limit end h (Faulty fault) c e =
       let a : numberOf (whyOf fault) ≡ n = cc in
       let b : at + faultPlace fault ≡ p = cc in
-      record { fault = fault; end = end; head = h; number = sym a; place = sym b }
+      record { fault = fault; end = end; head = h; number = sym a; place = sym b; within = omega (arith, place-inside (unitAt s at) floor run limit fault c) }
 
   unit-no : (s : List ℕ) (at floor run limit : ℕ) → unitOf s at floor run limit ≡ refused n p → Faulted s at floor run limit
   unfolding unitOf unitFieldsOf
   unit-no s at floor run limit e = go (next-from (unitHeadOf s at) (λ _. unitFieldsOf s at floor run limit) e)
     where
       go : From (unitHeadOf s at) (λ _. unitFieldsOf s at floor run limit) n p → Faulted s at floor run limit
-      go (front h) = absurd (head-no s at _ _ h)
-      go (after end h f) = checks-no s at floor run limit end h (unitFaults (unitAt s at) floor run limit) f
+      go (front h) = absurd (unit-head-no s at high h)
+      go (after end h f) = checks-no s at floor run limit end h (unitFaults (unitAt s at) floor run limit) refl f
 
   -- the first that fails, of units that are not all accepted
   pub record First (s : List ℕ) (at floor run limit left : ℕ) : Type 0 where
@@ -77,6 +72,7 @@ module _ (n p : ℕ) (high : 3 ≤ n) where
     pub head : unitHeadOf s (placeFrom s at index) ≡ is end
     pub number : n ≡ numberOf (whyOf fault)
     pub place : p ≡ placeFrom s at index + faultPlace fault
+    pub within : p < unitEnd s (placeFrom s at index)
 
   pub first : (s : List ℕ) (at floor run limit left : ℕ) → unitsOf s at floor run limit left ≡ refused n p → First s at floor run limit left
   unfolding unitsOf placeFrom next
@@ -99,6 +95,7 @@ module _ (n p : ℕ) (high : 3 ≤ n) where
             head = f .head;
             number = f .number;
             place = f .place;
+            within = f .within;
           }
       go (after u h f) rest =
           let r = rest u f in
@@ -113,4 +110,5 @@ module _ (n p : ℕ) (high : 3 ≤ n) where
             head = rw later at (r .head);
             number = r .number;
             place = rw later at (r .place);
+            within = rw later at (r .within);
           }

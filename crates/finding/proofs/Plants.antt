@@ -4,7 +4,7 @@ use mathlib.Core.Path.{_≡_, refl, sym, ap, _∙_}
 use mathlib.Core.Bool.{Bool, true, false, _||_, false≢true}
 use mathlib.Core.List.{List}
 use native.Mathlib.Omega.{arith}
-use borrow.Author.Tests.{lt-ltb, le-ltb, le-leb, eq-eqb}
+use borrow.Author.Tests.{lt-ltb, le-ltb, le-leb}
 use lib.Dec.{eqb}
 use lib.ListN.{length}
 use Rattle.numbers.specs.Bytes.{byteAt}
@@ -20,8 +20,8 @@ use Rattle.terms.proofs.Replies.{never, need-is, need-past}
 use Rattle.terms.proofs.Same.{why-same}
 use Rattle.records.specs.declared.group.GroupRecord.{GroupRecord}
 use Rattle.records.specs.Layouts as L
-use Rattle.records.specs.Reading.{unitEnd, placeFrom, unitPlace, unitIn, faultPlace, groupFieldsOf, dayFieldsOf, endFieldsOf, unitsOf}
-use Rattle.records.proofs.Heads.{headed}
+use Rattle.records.specs.Reading.{unitEnd, placeFrom, unitPlace, unitIn, unitHeadOf, faultPlace, groupFieldsOf, dayFieldsOf, endFieldsOf, unitsOf}
+use Rattle.records.proofs.UnitHeads.{length-least, read-kind, read-long}
 use Rattle.records.proofs.Ages.{of-position}
 use Rattle.records.proofs.Places.{place-later, place-from}
 use Rattle.walk.specs.declared.table.Role.{Role}
@@ -36,7 +36,7 @@ use Rattle.finding.specs.declared.spot.Spot.the-variants.{Unit}
 use Rattle.finding.specs.declared.named.Field.the-variants as F
 use Rattle.finding.specs.declared.named.Subject.the-variants as S
 use Rattle.finding.specs.Spots.{groupWhole, spotFrom, spotOf}
-use Rattle.finding.specs.Naming.{keyIn, unitLayout, unitFieldAt, toldOf, findingOf, namedOf}
+use Rattle.finding.specs.Naming.{keyIn, numberAtHand, unitLayout, unitFieldAt, toldOf, findingOf, namedOf}
 use Rattle.finding.specs.Plants.{ofUnit, faultField, faultHeld, Plant}
 use Rattle.finding.proofs.Failing.{next-from, either, First, first}
 
@@ -97,20 +97,11 @@ field-at A.Crossed = refl
 field-at A.Ahead = refl
 field-at A.Age = refl
 
--- a place of fault lies within the record
-inside : (fault : Fault) → faultPlace fault < L.unitLength
-inside A.Number = omega arith
-inside A.Class = omega arith
-inside A.Coincide = omega arith
-inside A.Nominated = omega arith
-inside A.NotNominated = omega arith
-inside A.N = omega arith
-inside A.Pc = omega arith
-inside A.StepDown = omega arith
-inside A.StepUp = omega arith
-inside A.Crossed = omega arith
-inside A.Ahead = omega arith
-inside A.Age = omega arith
+-- the number is at hand in a unit record that lies there whole
+number-at-hand : (s : List ℕ) (at : ℕ) {end : ℕ} → unitHeadOf s at ≡ is end → numberAtHand s at ≡ true
+number-at-hand s at h =
+    let long : at + L.unitClass .place ≤ length s = omega (arith, read-long s at h, length-least (L.unitAt s at)) in
+    rw (le-leb _ _ long, read-kind s at h)
 
 -- ---- numbers of a unit's field are those of no other check
 abbrev others : ℕ → Bool
@@ -257,16 +248,16 @@ module _ (day : Day) (s : List ℕ) (r : Refusal) where
   spot-found w l = simp (w, le-leb L.groupLength (r .place) l)
 
   named-at : (i : ℕ) (fault : Fault) → r .why ≡ whyOf fault → spotOf s (r .place) ≡ Unit (record { index = 0 + i; at = unitPlace s i; before = unitPlace s (i - 1) })
-      → r .place ≡ unitPlace s i + faultPlace fault → unitPlace s i + L.unitClass .place ≤ length s → byteAt s (unitPlace s i) ≡ L.unitKind
+      → r .place ≡ unitPlace s i + faultPlace fault → numberAtHand s (unitPlace s i) ≡ true
       → namedOf day s r
       ≡ record {
         subject = S.Unit (keyIn s) (unitIn s i .number);
         finding = toldOf s (unitPlace s i) (F.Unit (faultField fault)) (faultHeld (day .«record») s (unitPlace s i) (unitPlace s (i - 1)) fault);
       }
   unfolding namedOf L.unitAt
-  named-at i fault why spot place long kind =
+  named-at i fault why spot place hand =
       let e = row day s (unitPlace s i) (unitPlace s (i - 1)) fault (r .place) (omega (arith, place)) in
-      rw (spot, why, e, le-leb _ _ long, eq-eqb _ _ kind)
+      rw (spot, why, e, hand)
 
   by-first : (high : 3 ≤ numberOf (r .why)) → groupWhole s ≡ true → First (numberOf (r .why)) (r .place) high s L.groupLength 0 run limit (L.groupAt s 0 .count) → Plant day s r
   by-first above whole f =
@@ -275,11 +266,9 @@ module _ (day : Day) (s : List ℕ) (r : Refusal) where
       let fault = f .fault in
       let why : r .why ≡ whyOf fault = why-same (r .why) (whyOf fault) (f .number) in
       let low : at ≤ r .place = omega (arith, f .place) in
-      let high : r .place < unitEnd s at = omega (arith, f .place, inside fault) in
       let behind : L.groupLength ≤ r .place = omega (arith, place-from s L.groupLength i) in
       let spot : spotOf s (r .place) ≡ Unit (record { index = 0 + i; at = at; before = unitPlace s (i - 1) }) =
-      spot-found whole behind ∙ spot-at s (r .place) 0 L.groupLength L.groupLength i (L.groupAt s 0 .count) (f .counted) low high ∙ rw (before-one i) in
-      let head = headed s at L.unitKind L.unitLength (f .head) in
+      spot-found whole behind ∙ spot-at s (r .place) 0 L.groupLength L.groupLength i (L.groupAt s 0 .count) (f .counted) low (f .within) ∙ rw (before-one i) in
       record {
         index = i;
         fault = fault;
@@ -289,7 +278,7 @@ module _ (day : Day) (s : List ℕ) (r : Refusal) where
         why = why;
         place = f .place;
         field = field-at fault;
-        named = named-at i fault why spot (f .place) (omega (arith, head .long)) (head .first);
+        named = named-at i fault why spot (f .place) (number-at-hand s at (f .head));
       }
 
   pub plant-named : (room : ℕ) → offerOf day s room ≡ refusal r → ofUnit (r .why) ≡ true → Plant day s r

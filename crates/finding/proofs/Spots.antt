@@ -8,8 +8,9 @@ use lib.ListN.{length}
 use borrow.Author.Tests.{leb-true, lt-ltb, le-ltb, le-leb, lt-leb}
 use Rattle.numbers.specs.Bytes.{byteAt}
 use Rattle.numbers.proofs.Choices.{and-both}
-use Rattle.records.specs.Layouts.{groupLength, unitLength, groupAt}
+use Rattle.records.specs.Layouts.{groupLength, groupAt, longestUnit}
 use Rattle.records.specs.Reading.{unitEnd}
+use Rattle.records.proofs.UnitHeads.{unit-past, unit-most}
 use Rattle.finding.specs.declared.spot.Spot.{Spot}
 use Rattle.finding.specs.declared.spot.Spot.the-variants.{Front, Unit}
 use Rattle.finding.specs.Spots.{groupWhole, spotFrom, spotOf}
@@ -23,7 +24,7 @@ pub record Walking (s : List ℕ) (place count before at index : ℕ) : Type 0 w
   pub within : index ≤ count
   pub so : whole s place count ≡ spotFrom s place index at before (count - index)
   pub low : at ≤ place
-  pub near : at ≤ groupLength + unitLength * index
+  pub near : at ≤ groupLength + longestUnit * index
   pub back : before ≤ at
 
 module _ (s : List ℕ) (place count : ℕ) where
@@ -36,7 +37,7 @@ module _ (s : List ℕ) (place count : ℕ) where
     one : index < count → count - index ≡ suc (count - (index + 1))
     one h = omega arith
 
-    pub turn : index < count → at + unitLength ≤ place → Walking s place count at (at + unitLength) (index + 1)
+    pub turn : index < count → unitEnd s at ≤ place → Walking s place count at (unitEnd s at) (index + 1)
     unfolding spotFrom
     turn h l =
         let e : whole s place count ≡ spotFrom s place index at before (suc (count - (index + 1))) = w .so ∙ ap (spotFrom s place index at before) (one h) in
@@ -44,11 +45,11 @@ module _ (s : List ℕ) (place count : ℕ) where
           within = omega arith;
           so = e ∙ rw (le-ltb place (unitEnd s at) l);
           low = l;
-          near = omega (arith, w .near);
-          back = omega arith;
+          near = omega (arith, w .near, unit-most s at);
+          back = omega (arith, unit-past s at);
         }
 
-    pub found : index < count → place < at + unitLength → whole s place count ≡ Unit (record { index = index; at = at; before = before })
+    pub found : index < count → place < unitEnd s at → whole s place count ≡ Unit (record { index = index; at = at; before = before })
     unfolding spotFrom
     found h l =
         let e : whole s place count ≡ spotFrom s place index at before (suc (count - (index + 1))) = w .so ∙ ap (spotFrom s place index at before) (one h) in

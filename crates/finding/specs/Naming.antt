@@ -49,7 +49,7 @@ frontSubject s = pick (groupWhole s) (S.Block (keyIn s)) (kindSubject (byteAt s 
 
 -- a unit record whose number is at hand names the unit; else its index does
 abbrev pub numberAtHand : List ℕ → ℕ → Bool
-numberAtHand s at = leb (at + L.unitClass .place) (length s) && eqb (byteAt s at) L.unitKind
+numberAtHand s at = leb (at + L.unitClass .place) (length s) && L.isUnit (byteAt s at)
 
 abbrev pub unitSubject : List ℕ → UnitSpot → Subject
 unitSubject s u =

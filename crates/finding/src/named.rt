@@ -9,6 +9,7 @@ ghost use Rattle.finding.specs.Naming.{unitFieldAt, unitValueAt, valueIn
 ghost use Rattle.finding.specs.Naming.{numberFinding, flagFinding, rangeFinding, crossedFinding, positionsFinding, marginsFinding, findingOf, namedOf};
 use crate::reading::byte;
 use crate::reading::half;
+use crate::reading::is_unit;
 use crate::reading::signed;
 use crate::reading::word;
 use crate::spot::Spot;
@@ -149,7 +150,7 @@ fn unit_subject(s: &[u8], spot: UnitSpot) -> Subject
     if s.len() < at + UnitRecord::CLASS {
         return Subject::UnitAt(key, spot.index);
     }
-    if byte(s, at) != UnitRecord::KIND {
+    if !is_unit(byte(s, at)) {
         return Subject::UnitAt(key, spot.index);
     }
     Subject::Unit(key, half(s, at + UnitRecord::NUMBER))

@@ -2,8 +2,8 @@
 ghost use mathlib.Core.Path.{_≡_};
 ghost use Rattle.finding.specs.Inner.{Spotted};
 ghost use Rattle.finding.specs.Spots.{groupWhole, recordAt, beforeAt};
+use crate::reading::unit_length;
 use records::group::GroupRecord;
-use records::unit::UnitRecord;
 
 // A unit record: its index, its place, and the place of the one before; the first has none before it, and tells its own.
 pub struct UnitSpot {
@@ -41,11 +41,12 @@ pub fn spot_of(s: &[u8], place: usize) -> Spot
     let mut at = GroupRecord::LEN;
     let mut index = 0;
     while index < count {
-        if place < at + UnitRecord::LEN {
+        let end = at + unit_length(s, at);
+        if place < end {
             return Spot::Unit(UnitSpot { index, at, before });
         }
         before = at;
-        at += UnitRecord::LEN;
+        at = end;
         index += 1;
     }
     Spot::Front

@@ -20,9 +20,9 @@ use Rattle.records.specs.declared.day.DayRecord.{DayRecord}
 use Rattle.records.specs.declared.end.EndRecord.{EndRecord}
 use Rattle.records.specs.Layouts.{dayAt, groupAt, endAt, groupResultAt, unitResultAt}
 use Rattle.records.specs.Reading.{dayOf, endOf}
-use Rattle.writers.specs.Columns.{Columns}
+use Rattle.writers.specs.Columns.{Columns, columnsIn}
 use Rattle.writers.specs.Results.{resultLength}
-use Rattle.writers.specs.Trips.{Values, columnsIn}
+use Rattle.writers.specs.Trips.{Values}
 use Rattle.writers.specs.Writing.{groupOver, DayWritten, BlockWritten, EndWritten}
 use Rattle.writers.proofs.Back.{day-back, block-back, end-back}
 use Rattle.walk.specs.declared.table.Role.the-variants.{Opens, Block, Closes}

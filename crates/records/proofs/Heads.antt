@@ -1,19 +1,19 @@
--- A record whose head was read has its kind, and lies whole in the bytes: each test of the head passed.
+-- A record whose head was read has its kind, and lies whole in the bytes: each test of the head passed; one that is refused is cut short or of another kind.
 use Prim.Native.Nat.{ℕ, _+_, _≤_, _<_}
-use mathlib.Core.Path.{_≡_, refl}
-use mathlib.Core.Bool.{true, false, _&&_}
+use mathlib.Core.Path.{_≡_, refl, sym}
+use mathlib.Core.Bool.{Bool, true, false, _&&_}
 use mathlib.Core.List.{List}
 use native.Mathlib.Omega.{arith}
-use lib.Dec.{eqb, leb}
+use lib.Dec.{eqb, leb, ltb}
 use lib.ListN.{length}
-use borrow.Author.Tests.{leb-true, eqb-true, lt-ltb, le-leb, eq-eqb}
+use borrow.Author.Tests.{ltb-true, leb-true, eqb-true, lt-ltb, le-leb, eq-eqb}
 use Rattle.numbers.specs.Bytes.{byteAt}
 use Rattle.numbers.proofs.Choices.{and-both}
-use Rattle.terms.specs.Reply.{Reply, is, need, next}
+use Rattle.terms.specs.Reply.{Reply, is, refused, need, next}
 use Rattle.terms.specs.Refusals.{answer, refusal, refusalOf}
 use Rattle.terms.specs.declared.refusal.Answer.{Answer}
 use Rattle.terms.specs.declared.refusal.Answer.the-variants as A
-use Rattle.terms.proofs.Replies.{need-is}
+use Rattle.terms.proofs.Replies.{never, need-is, need-past}
 use Rattle.records.specs.Reading.{headOf}
 
 pub record Headed (s : List ℕ) (at kind len : ℕ) : Type 0 where
@@ -57,6 +57,38 @@ module _ (s : List ℕ) (at kind len : ℕ) where
       let t = rw (le-leb (at + len) (length s) (h .long), eq-eqb (byteAt s at) kind (h .first)) at e in
       let z : _≡_ {A = ℕ} 0 1 = cc in
       omega arith
+
+-- a head is refused by 1 or 2 alone
+pub head-no : (s : List ℕ) (at kind len : ℕ) {n p : ℕ} → 3 ≤ n → headOf s at kind len ≡ refused n p → ⊥
+unfolding headOf
+head-no s at kind len high e =
+    let a = need-past _ 1 _ _ e (λ z. omega arith) in
+    let b = need-past _ 2 _ _ a (λ z. omega arith) in
+    never (sym (need-past _ 1 _ _ b (λ z. omega arith)))
+
+-- it is not cut short where its length is there
+pub head-there : (s : List ℕ) (at kind len : ℕ) → 0 < len → at + len ≤ length s → (p : ℕ) → headOf s at kind len ≡ refused 1 p → ⊥
+unfolding headOf need
+head-there s at kind len pos long p e =
+    let a : need (eqb (byteAt s at) kind) 2 at (is (at + len)) ≡ refused 1 p = rw (lt-ltb at (length s) (omega arith), le-leb (at + len) (length s) long) at e in
+    never (sym (need-past (eqb (byteAt s at) kind) 2 at (is (at + len)) a (λ z. omega arith)))
+
+-- unless it is cut short, it is the same in longer bytes, where its first byte is
+pub head-longer : (s t : List ℕ) (at kind len : ℕ) → length s ≤ length t → (at < length s → byteAt t at ≡ byteAt s at)
+    → ((p : ℕ) → headOf s at kind len ≡ refused 1 p → ⊥) → headOf t at kind len ≡ headOf s at kind len
+unfolding headOf need
+head-longer s t at kind len more b uncut = go (ltb at (length s)) (eqb (byteAt s at) kind) (leb (at + len) (length s)) refl refl refl
+  where
+    go : (x y z : Bool) → ltb at (length s) ≡ x → eqb (byteAt s at) kind ≡ y → leb (at + len) (length s) ≡ z → headOf t at kind len ≡ headOf s at kind len
+    go false y z p q r = absurd (uncut (length s) (rw p))
+    go true false z p q r =
+        let l = ltb-true at (length s) p in
+        rw (b l, p, q, lt-ltb at (length t) (omega arith))
+    go true true false p q r = absurd (uncut (length s) (rw (p, q, r)))
+    go true true true p q r =
+        let l = ltb-true at (length s) p in
+        let m = leb-true (at + len) (length s) r in
+        rw (b l, p, q, r, lt-ltb at (length t) (omega arith), le-leb (at + len) (length t) (omega arith))
 
 -- an answer that is refused hands its refusal on
 pub handed : {B : Type 0} (h : Answer) (rest : ℕ → Reply B) → ((end : ℕ) → answer h ≡ is end → ⊥) → refusal (refusalOf h) ≡ next (answer h) rest

@@ -4,7 +4,7 @@ use mathlib.Core.Path.{_≡_, refl, ap}
 use mathlib.Core.List.{List}
 use native.Mathlib.Omega.{arith}
 use native.Mathlib.Decide.{decLt}
-use Rattle.records.specs.Longest.{longestUnit}
+use Rattle.records.specs.Layouts.{longestUnit}
 use Rattle.records.specs.Reading.{unitEnd, placeFrom}
 use Rattle.records.proofs.UnitHeads.{unit-past, unit-most}
 

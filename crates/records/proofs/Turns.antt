@@ -1,14 +1,16 @@
--- The units of a block one after another are a reading by steps, which the first refusal ends; what is at fault lies within the longest.
+-- The units of a block one after another are a reading by steps, which the first refusal ends; what is at fault lies within the record.
 use Prim.Native.Nat.{ℕ, _+_, _<_}
-use mathlib.Core.Path.{refl}
+use mathlib.Core.Path.{_≡_, refl}
 use mathlib.Core.List.{List}
 use native.Mathlib.Omega.{arith}
 use Rattle.terms.specs.Reply.{Reply}
 use Rattle.terms.specs.declared.refusal.Fault.{Fault}
 use Rattle.terms.specs.declared.refusal.Fault.the-variants as F
+use Rattle.terms.specs.declared.refusal.Checked.the-variants.{Faulty}
 use Rattle.terms.proofs.FirstRefused.{Steps}
-use Rattle.records.specs.Longest.{longestUnit}
-use Rattle.records.specs.Reading.{faultPlace, unitEnd, unitOf, unitsOf}
+use Rattle.records.specs.declared.unit.UnitRecord.{UnitRecord}
+use Rattle.records.specs.Layouts.{lengthOf, longestUnit}
+use Rattle.records.specs.Reading.{faultPlace, unitEnd, unitFaults, unitOf, unitsOf}
 
 -- what is at fault stands within the longest record
 pub place-within : (fault : Fault) → faultPlace fault < longestUnit
@@ -24,6 +26,10 @@ place-within F.StepUp = omega arith
 place-within F.Crossed = omega arith
 place-within F.Ahead = omega arith
 place-within F.Age = omega arith
+
+-- what a unit has wrong stands within its own record, however long the longest is
+pub place-inside : (u : UnitRecord) (floor run limit : ℕ) (fault : Fault) → unitFaults u floor run limit ≡ Faulty fault → faultPlace fault < lengthOf u
+place-inside u floor run limit fault e = place-within fault
 
 -- so many units from a place and a least number on
 abbrev pub unitsAfter : List ℕ → ℕ → ℕ → ℕ × ℕ → ℕ → Reply ℕ

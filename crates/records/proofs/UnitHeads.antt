@@ -7,18 +7,20 @@ use native.Mathlib.Omega.{arith}
 use lib.ListN.{length}
 use borrow.Author.Tests.{lt-ltb, le-leb, eq-eqb}
 use Rattle.numbers.specs.Bytes.{byteAt}
-use Rattle.terms.specs.Reply.{is, need}
+use Rattle.terms.specs.Reply.{is, refused, need}
 use Rattle.terms.proofs.Replies.{next-is}
 use Rattle.records.specs.declared.unit.UnitRecord.{UnitRecord}
-use Rattle.records.specs.Layouts.{unitKind, unitLength, unitAt, lengthOf}
-use Rattle.records.specs.Longest.{longestUnit}
+use Rattle.records.specs.Layouts.{unitKind, isUnit, unitLength, unitAt, lengthOf, longestUnit}
 use Rattle.records.specs.Reading.{headOf, unitHeadOf, unitEnd, unitOf}
 use Rattle.records.specs.Inner.{isWhole}
-use Rattle.records.proofs.Heads.{headed, head-end, whole-head, whole-headed}
+use Rattle.records.proofs.Heads.{headed, head-end, whole-head, whole-headed, head-no, head-there, head-longer}
 
--- a unit has bytes, and no more than the longest
+-- a unit has bytes, no less than the shortest and no more than the longest
 pub length-some : (u : UnitRecord) → 0 < lengthOf u
 length-some u = omega arith
+
+pub length-least : (u : UnitRecord) → unitLength ≤ lengthOf u
+length-least u = omega arith
 
 pub length-most : (u : UnitRecord) → lengthOf u ≤ longestUnit
 length-most u = omega arith
@@ -37,6 +39,13 @@ module _ (s : List ℕ) (at : ℕ) where
   pub whole-long : isWhole s at ≡ true → unitEnd s at ≤ length s
   whole-long w = whole-headed s at unitKind unitLength w .long
 
+  -- its head is refused by 1 or 2 alone, and by 1 only where the longest would not fit
+  pub unit-head-no : {n p : ℕ} → 3 ≤ n → unitHeadOf s at ≡ refused n p → ⊥
+  unit-head-no = head-no s at unitKind unitLength
+
+  pub unit-there : at + longestUnit ≤ length s → (p : ℕ) → unitHeadOf s at ≡ refused 1 p → ⊥
+  unit-there = head-there s at unitKind unitLength (omega arith)
+
   module _ {end : ℕ} (e : unitHeadOf s at ≡ is end) where
     pub read-end : end ≡ unitEnd s at
     read-end = sym (head-end s at unitKind unitLength e)
@@ -45,6 +54,9 @@ module _ (s : List ℕ) (at : ℕ) where
     read-whole =
         let h = headed s at unitKind unitLength e in
         rw (le-leb (at + unitLength) (length s) (h .long), eq-eqb (byteAt s at) unitKind (h .first))
+
+    pub read-kind : isUnit (byteAt s at) ≡ true
+    read-kind = eq-eqb (byteAt s at) unitKind (headed s at unitKind unitLength e .first)
 
     pub read-long : unitEnd s at ≤ length s
     read-long = whole-long read-whole
@@ -62,3 +74,8 @@ module _ (s t : List ℕ) (at to : ℕ) (b : byteAt t to ≡ byteAt s at) where
       let k = b ∙ headed s at unitKind unitLength e .first in
       let m : unitLength ≡ n = omega (arith, head-end s at unitKind unitLength e) in
       simp (k, lt-ltb to (length t) (omega arith), ap (λ (x : ℕ). to + x) m, le-leb (to + n) (length t) l)
+
+-- unless it is cut short, the head is the same in longer bytes, where its first byte is
+pub unit-longer : (s t : List ℕ) (at : ℕ) → length s ≤ length t → (at < length s → byteAt t at ≡ byteAt s at)
+    → ((p : ℕ) → unitHeadOf s at ≡ refused 1 p → ⊥) → unitHeadOf t at ≡ unitHeadOf s at
+unit-longer s t at = head-longer s t at unitKind unitLength

@@ -167,6 +167,10 @@ groupBytes g = behind (groupKind ∷ []) (groupTable g)
 abbrev pub unitKind : ℕ
 unitKind = 3
 
+-- a record of this kind is a unit's
+abbrev pub isUnit : ℕ → Bool
+isUnit kind = eqb kind unitKind
+
 abbrev pub unitLength : ℕ
 unitLength = 26
 
@@ -244,6 +248,10 @@ unitBytes u = behind (unitKind ∷ []) (unitTable u)
 -- how many bytes a unit's record has
 abbrev pub lengthOf : UnitRecord → ℕ
 lengthOf u = unitLength
+
+-- no unit record is longer
+abbrev pub longestUnit : ℕ
+longestUnit = unitLength
 
 -- the margins that the steps work with
 abbrev pub marginsOf : UnitRecord → Margins

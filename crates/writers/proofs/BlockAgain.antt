@@ -29,9 +29,8 @@ use Rattle.records.proofs.Accepted.{unit-is, block-end}
 use Rattle.records.proofs.Checks.{also-fine}
 use Rattle.records.proofs.Heads.{headed}
 use Rattle.records.proofs.Read.{GroupPassed, group-passed, GroupRead, group-read}
-use Rattle.writers.specs.Columns.{Columns, rowOf, count, same, even, floorAt, rowChecks}
+use Rattle.writers.specs.Columns.{Columns, rowOf, columnsIn, count, same, even, floorAt, rowChecks}
 use Rattle.writers.specs.Writing.{roomFor, groupChecks, unitsEnd, unitsChecked, blockLength, writeBlockOf, groupOver, unitsBytes, blockBytes, BlockWritten}
-use Rattle.writers.specs.Trips.{columnsIn}
 use Rattle.writers.proofs.Runs.{run-again}
 use Rattle.writers.proofs.Lengths.{length-units, length-block}
 use Rattle.writers.proofs.Accepted.{fine-scan}

@@ -7,8 +7,7 @@ use Rattle.numbers.specs.Bytes.{bytes16, bytes32}
 use Rattle.records.specs.declared.group_result.GroupResult.{GroupResult}
 use Rattle.records.specs.declared.unit_result.UnitResult.{UnitResult}
 use Rattle.records.specs.declared.group.GroupRecord.{GroupRecord}
-use Rattle.records.specs.Layouts.{behind, groupLength, groupBytes, unitBytes, groupResultLength, groupResultBytes, unitResultLength, unitResultBytes}
-use Rattle.records.specs.Longest.{longestUnit}
+use Rattle.records.specs.Layouts.{behind, groupLength, groupBytes, unitBytes, longestUnit, groupResultLength, groupResultBytes, unitResultLength, unitResultBytes}
 use Rattle.records.proofs.UnitHeads.{length-most}
 use Rattle.writers.specs.Columns.{Columns, rowOf, count}
 use Rattle.writers.specs.Results.{Results, resultOf, unitResultsBytes}

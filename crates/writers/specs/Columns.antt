@@ -5,10 +5,11 @@ use mathlib.Core.List.{List, [], _∷_}
 use lib.Dec.{eqb}
 use lib.IntN.{ℤ, pos}
 use lib.ListN.{length, getD}
+use Rattle.numbers.specs.Column.{column}
 use Rattle.terms.specs.declared.refusal.Checked.{Checked}
 use Rattle.records.specs.declared.unit.UnitRecord.{UnitRecord}
 use Rattle.records.specs.Layouts.{unitWith}
-use Rattle.records.specs.Reading.{valueFaults}
+use Rattle.records.specs.Reading.{unitIn, valueFaults}
 
 pub record Columns : Type 0 where
   pub number : List ℕ
@@ -48,6 +49,20 @@ rowOf c i =
     (getD (c .step-down) i (pos 0))
     (getD (c .step-up) i (pos 0))
     (getD (c .made) i 0)
+
+-- the values of so many units of a block, by the layout
+abbrev pub columnsIn : List ℕ → ℕ → Columns
+columnsIn s units =
+    columns
+    (column units λ i. unitIn s i .number)
+    (column units λ i. unitIn s i .class)
+    (column units λ i. unitIn s i .coincide)
+    (column units λ i. unitIn s i .nominated)
+    (column units λ i. unitIn s i .n .0)
+    (column units λ i. unitIn s i .pc .0)
+    (column units λ i. unitIn s i .«step_down»)
+    (column units λ i. unitIn s i .«step_up»)
+    (column units λ i. unitIn s i .made)
 
 -- how many units there are
 abbrev pub count : Columns → ℕ

@@ -1,11 +1,10 @@
--- What the round trips speak of: a block as columns by the layout, and what a day asks of a block beyond what a writer does.
+-- What the round trips speak of: the values that bytes hold by the layouts, and what a day asks of a block beyond what a writer does.
 use Prim.Native.Nat.{ℕ, _<_}
 use mathlib.Core.Path.{_≡_}
 use mathlib.Core.Bool.{true}
 use mathlib.Core.List.{List}
 use mir.Syntax.{w32}
 use mir.Val.{SFits}
-use Rattle.numbers.specs.Column.{column}
 use Rattle.records.specs.declared.day.DayRecord.{DayRecord}
 use Rattle.records.specs.declared.group.GroupRecord.{GroupRecord}
 use Rattle.records.specs.declared.group_result.GroupResult.{GroupResult}
@@ -13,22 +12,8 @@ use Rattle.records.specs.declared.unit_result.UnitResult.{UnitResult}
 use Rattle.records.specs.declared.key.Last.{Last}
 use Rattle.records.specs.Layouts.{groupAt}
 use Rattle.records.specs.Reading.{aged, follows, keyOf, unitIn}
-use Rattle.writers.specs.Columns.{Columns, columns, rowOf, count}
+use Rattle.writers.specs.Columns.{Columns, rowOf, count}
 use Rattle.writers.specs.Results.{Results, resultOf}
-
--- the values of so many units of a block
-abbrev pub columnsIn : List ℕ → ℕ → Columns
-columnsIn s units =
-    columns
-    (column units λ i. unitIn s i .number)
-    (column units λ i. unitIn s i .class)
-    (column units λ i. unitIn s i .coincide)
-    (column units λ i. unitIn s i .nominated)
-    (column units λ i. unitIn s i .n .0)
-    (column units λ i. unitIn s i .pc .0)
-    (column units λ i. unitIn s i .«step_down»)
-    (column units λ i. unitIn s i .«step_up»)
-    (column units λ i. unitIn s i .made)
 
 -- the bytes hold, by the layouts, this group record and a unit for each row of the columns
 pub record Values (g : GroupRecord) (c : Columns) (s : List ℕ) : Type 0 where

@@ -6,6 +6,8 @@ use denote.Ref.{now}
 use borrow.Author.Tests.{not-true, not-false}
 use borrow.Author.Needs.{needs}
 use Rattle.numbers.specs.Bytes.{byteAt}
+use Rattle.records.specs.Layouts.{unitAt}
+use Rattle.records.proofs.UnitHeads.{length-most}
 use Rattle.finding.proofs.Spots.{Walking, start, turn, found, none, long, inside, no-group, in-front, front, unit}
 use Rattle.finding.proofs.spot.spot_of.Statement.{statement}
 use Rattle.finding.proofs.spot.spot_of.Tie as tie
@@ -44,35 +46,43 @@ loop-holds c =
     let a = test .before .before .before .before .args in
     start (now (a .s)) (a .place) _ (test .if2 .left)
 
-add-if3 : tie.Need-add-if3 Inv-loop μ-loop
-add-if3 c = omega (arith, c .before .loop .inv .near, c .loop-test .taken, c .before .before .shared-slice-known2 .given 5)
+unit-length-requires : tie.Need-unit-length-requires Inv-loop μ-loop
+unit-length-requires c κs = search needs
+
+add-end : tie.Need-add-end Inv-loop μ-loop
+add-end c =
+    let v = c .before .before .loop in
+    let read = c .before .before .before in
+    let a = read .before .before .before .before .before .args in
+    omega (arith, c .unit-length .ensures, length-most (unitAt (now (a .s)) (v .at)), v .inv .near, c .before .loop-test .taken, read .shared-slice-known2 .given 5)
 
 returns-3 : tie.Need-returns-3 Inv-loop μ-loop
 returns-3 c =
-    let v = c .before .before .loop in
-    let read = c .before .before .before in
+    let length = c .before in
+    let taken = length .before .loop-test .taken in
+    let v = length .before .before .loop in
+    let read = length .before .before .before in
     let test = read .before in
     let a = test .before .before .before .before .args in
     let s = now (a .s) in
     let g = sym (test .before .before .is-group .ensures) ∙ not-false _ (test .before .if1 .left) in
     let few : byteAt s 5 < 256 = omega (arith, read .shared-slice-known2 .given 5) in
-    let e = inside s (a .place) g (test .if2 .left) ∙ found s (a .place) _ (v .before) (v .at) (v .index) (v .inv) (c .before .loop-test .taken) (c .if3 .taken) in
-    unit s (a .place) (byteAt s 5) (v .before) (v .at) (v .index) few (c .before .loop-test .taken) (v .inv) e
-
-add-at : tie.Need-add-at Inv-loop μ-loop
-add-at c = omega (arith, c .before .before .loop .inv .near, c .before .loop-test .taken, c .before .before .before .shared-slice-known2 .given 5)
+    let e = inside s (a .place) g (test .if2 .left) ∙ found s (a .place) _ (v .before) (v .at) (v .index) (v .inv) taken (omega (arith, c .if3 .taken, length .unit-length .ensures)) in
+    unit s (a .place) (byteAt s 5) (v .before) (v .at) (v .index) few taken (v .inv) e
 
 add-index : tie.Need-add-index Inv-loop μ-loop
-add-index c = omega (arith, c .before .loop-test .taken, c .before .before .before .shared-slice-known2 .given 5)
+add-index c = omega (arith, c .before .before .loop-test .taken, c .before .before .before .before .shared-slice-known2 .given 5)
 
 loop-less : tie.Need-loop-less Inv-loop μ-loop
 loop-less c = search needs
 
 loop-again : tie.Need-loop-again Inv-loop μ-loop
 loop-again c =
-    let v = c .before .before .loop in
-    let a = c .before .before .before .before .before .before .before .before .args in
-    turn (now (a .s)) (a .place) _ (v .before) (v .at) (v .index) (v .inv) (c .before .loop-test .taken) (c .if3 .left)
+    let length = c .before in
+    let v = length .before .before .loop in
+    let a = length .before .before .before .before .before .before .before .before .args in
+    rw (length .unit-length .ensures)
+    (turn (now (a .s)) (a .place) _ (v .before) (v .at) (v .index) (v .inv) (length .before .loop-test .taken) (omega (arith, c .if3 .left, length .unit-length .ensures)))
 
 returns-4 : tie.Need-returns-4 Inv-loop μ-loop
 returns-4 c =
@@ -95,9 +105,9 @@ spot-of-spec =
     shared-slice-read-count
     cast-count
     loop-holds
-    add-if3
+    unit-length-requires
+    add-end
     returns-3
-    add-at
     add-index
     loop-less
     loop-again
