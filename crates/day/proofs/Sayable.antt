@@ -7,6 +7,7 @@ use Rattle.walk.specs.declared.table.State.{State}
 use Rattle.walk.specs.declared.table.Role.{Role}
 use Rattle.walk.specs.declared.table.Role.the-variants.{Opens, Block, Closes}
 use Rattle.walk.specs.Table.{headIn}
+use Rattle.blocks.specs.Checking.{blockUnitsOf}
 use Rattle.day.specs.declared.value.Day.{Day}
 use Rattle.day.specs.Checking.{blockFieldsOf}
 use Rattle.day.specs.Offers.{headFor, dayTaken, blockTaken, endTaken, taken, offerOf}
@@ -22,7 +23,7 @@ module _ (s : List ℕ) where
     head-for = say-need _ W.CutShort _ (say-need _ W.Kind _ (head-in 0 (day .state)))
 
     block-fields : Sayable (blockFieldsOf day s)
-    unfolding blockFieldsOf
+    unfolding blockFieldsOf blockUnitsOf
     block-fields = say-next (say-group s _ _) (λ g. say-next (say-units s _ _ _ _ _) (λ end. value _))
 
     day-taken : (end : ℕ) → Sayable (dayTaken s end)

@@ -21,6 +21,7 @@ use Rattle.records.specs.Layouts.{groupLength, groupAt, unitLength, unitAt, len
 use Rattle.records.specs.Reading.{headOf, unitHeadOf, unitEnd, placeFrom, dayFieldsOf, groupFieldsOf, endFieldsOf, faultPlace, unitFaults, unitFieldsOf, unitOf, unitsOf}
 use Rattle.records.specs.Longest.{longestUnit, longestBlock}
 use Rattle.records.proofs.Alike.{Agree, agree, day-kept, group-kept, end-kept, units-same}
+use Rattle.records.proofs.Accepted.{units-accepted}
 use Rattle.records.proofs.UnitHeads.{unit-most, read-long, unit-long}
 use Rattle.records.proofs.Read.{group-passed}
 use Rattle.records.proofs.Ages.{of-position}
@@ -32,6 +33,8 @@ use Rattle.walk.proofs.Bodies.{body-short}
 use Rattle.walk.proofs.Coming.{lengthIn}
 use Rattle.day.specs.declared.value.Day.{Day}
 use Rattle.blocks.specs.declared.check.Block.{Block}
+use Rattle.blocks.specs.Checking.{blockUnitsOf}
+use Rattle.blocks.proofs.ByUnits.{units-refuse, block-alike}
 use Rattle.day.specs.Checking.{blockFieldsOf}
 use Rattle.day.specs.Offers.{headFor, dayTaken, blockTaken, endTaken, taken, offerOf, cutShort}
 use Rattle.day.proofs.ByKind.{head-came}
@@ -89,12 +92,22 @@ module _ (s t : List ℕ) (a : Agree s t (length s)) where
       ap (λ (to : ℕ). unitsOf t to (u .number + 1) run limit left) k ∙ units-stand (unitEnd s at) (u .number + 1) run limit left c
 
   -- ---- what is offered
+  block-units-stand : (g : GroupRecord) (run limit : ℕ) → groupLength ≤ length s → Stands (blockUnitsOf s g run limit) (blockUnitsOf t g run limit)
+  block-units-stand g run limit h c = go (unitsOf s groupLength 0 run limit (g .count)) refl
+    where
+      go : (x : Reply ℕ) → unitsOf s groupLength 0 run limit (g .count) ≡ x → blockUnitsOf t g run limit ≡ blockUnitsOf s g run limit
+      go (is end) e = block-alike s t (length s) a g run limit (units-accepted s groupLength 0 run limit (g .count) h e .within) e
+      go (refused n p) e =
+          let r = units-refuse s g run limit e in
+          let u = units-stand groupLength 0 run limit (g .count) (ap cutShort e ∙ sym (ap cutShort r) ∙ c) in
+          units-refuse t g run limit (u ∙ e) ∙ sym r
+
   block-stands : (day : Day) (room : ℕ) → groupLength ≤ length s → Stands (blockTaken day s room) (blockTaken day t room)
   unfolding blockTaken blockFieldsOf
   block-stands day room h =
       then _ _ _ _
       (rw (group-kept s t (length s) a (day .«record») (day .last) h)
-      (then _ _ _ _ (λ c. refl) λ g e. then _ _ _ _ (units-stand groupLength 0 (day .«record» .run) (day .«record» .«margin_limit») (g .count)) λ end f c. refl))
+      (then _ _ _ _ (λ c. refl) λ g e. block-units-stand g (day .«record» .run) (day .«record» .«margin_limit») h))
       λ block e c. refl
 
   taken-stands : (day : Day) (room : ℕ) (role : Role) (end : ℕ) → lengthIn role s 0 ≤ length s → Stands (taken day s room role end) (taken day t room role end)
@@ -180,7 +193,7 @@ module _ (s : List ℕ) where
 
   module _ (most : longestBlock ≤ length s) where
     block-enough : (day : Day) (room : ℕ) → cutShort (blockTaken day s room) ≡ false
-    unfolding blockTaken blockFieldsOf groupFieldsOf
+    unfolding blockTaken blockFieldsOf groupFieldsOf blockUnitsOf
     block-enough day room =
         goes _ _
         (goes _ _ group-enough λ g e.

@@ -1,11 +1,11 @@
 -- What the header says of the C call: each number in its reply is one of those listed, and an accepted call is the offer of the block to the day just opened, so that the demands on an offer carry over.
 use Prim.Native.Nat.{ℕ, zero, suc, _+_, _≤_, _<_}
-use mathlib.Core.Path.{_≡_, refl, sym, ap, _∙_}
+use mathlib.Core.Path.{_≡_, refl, sym, _∙_}
 use mathlib.Core.Bool.{Bool, true, false, _||_, false≢true}
 use mathlib.Core.List.{List, [], _∷_, _++_, List·Memᴰ, List·Memᴰ·head, List·Memᴰ·tail}
 use native.Mathlib.Omega.{arith}
 use borrow.Author.Tests.{leb-true, eqb-true}
-use lib.Dec.{leb, ltb, eqb}
+use lib.Dec.{leb, eqb}
 use lib.IntN.{ℤ, pos, negℤ}
 use lib.ListN.{length, drop}
 use Rattle.numbers.specs.Bytes.{byteAt}
@@ -25,23 +25,21 @@ use Rattle.records.specs.declared.day.DayRecord.{DayRecord}
 use Rattle.records.specs.declared.key.Last.the-variants.{Nothing}
 use Rattle.records.specs.Layouts.{groupAt, groupResultAt, unitResultAt}
 use Rattle.records.specs.Longest.{longestResult}
-use Rattle.records.specs.Reading.{permitted, headOf, dayFieldsOf, dayOf, groupFieldsOf, unitHeadOf, unitEnd, unitFieldsOf, unitOf, unitsOf}
-use Rattle.records.proofs.Read.{day-read, group-passed}
+use Rattle.records.specs.Reading.{headOf, dayFieldsOf, dayOf, groupFieldsOf, unitEnd, unitFieldsOf, unitOf, unitsOf}
+use Rattle.records.proofs.Read.{day-read}
 use Rattle.records.proofs.Ages.{of-position}
 use Rattle.writers.specs.Results.{resultLength}
-use Rattle.walk.specs.declared.table.State.the-variants.{Open}
 use Rattle.walk.specs.declared.table.Role.the-variants.{Block}
 use Rattle.walk.specs.Table.{roleOf, headIn, blockHeadIn}
+use Rattle.blocks.specs.Checking.{blockUnitsOf}
 use Rattle.blocks.specs.Blocks.{groupResult, blockKey, blockCount, blockGroup, blockResult, unitResult}
-use Rattle.day.specs.declared.value.Day.{Day}
 use Rattle.day.specs.declared.offer.Step.{Step}
-use Rattle.day.specs.declared.offer.Offered.the-variants as O
 use Rattle.day.specs.Days.{opened}
 use Rattle.day.specs.Checking.{blockFieldsOf, blockHeadFor}
-use Rattle.day.specs.Offers.{blockTaken, offerOf, blockOfferOf, writtenOf, roomAfter, Offers}
+use Rattle.day.specs.Offers.{blockTaken, offerOf, blockOfferOf, roomAfter}
 use Rattle.day.proofs.Taking.{takes}
 use Rattle.day.proofs.Read.{read}
-use Rattle.day.proofs.Outcomes.{TakenBlock, taken-block}
+use Rattle.day.proofs.Outcomes.{taken-block}
 use Rattle.day.proofs.BlockAlone.{alone-offered, alone-block}
 use Rattle.day.proofs.Demands.{result-bytes, group-told, unit-told, block-fair}
 use Rattle.desk.specs.Desk.{firstOf, callOf, given, Checks}
@@ -130,7 +128,7 @@ module _ (s : List ℕ) where
     early-group = early-need _ 4 _ refl (early-need _ 5 _ refl (early-true 13 _ (early-need _ _ _ (of-position (λ n. early n ≡ true) refl refl (d .run) (groupAt s 0 .made)) (value _))))
 
     early-block : (room : ℕ) → Early (blockTaken (opened d) s room)
-    unfolding blockTaken blockFieldsOf
+    unfolding blockTaken blockFieldsOf blockUnitsOf
     early-block room = early-next (early-next early-group (λ g. early-next (early-units _ _ _ _ _) (λ end. value _))) (λ b. early-need _ 12 _ refl (value _))
 
     early-alone : (room : ℕ) → Early (blockOfferOf (opened d) s room)
@@ -164,12 +162,11 @@ module _ (day s : List ℕ) (room : ℕ) {step : Step} (e : callOf day s room �
   offered = sym (alone-offered (opened (parts .0)) s block-is room) ∙ parts .1 .1
 
   written-in : (resultLength 1 ≤ step .written) × (step .written ≤ longestResult)
-  unfolding blockFieldsOf
   written-in =
       let d = parts .0 in
       let t = taken-block (opened d) s room offered block-is in
-      let few = read (opened d) s (t .long) (t .fields) .few in
-      let g = group-passed s d Nothing (next-is (groupFieldsOf s d Nothing) _ (t .fields) .1 .0) in
+      let g = read (opened d) s (t .long) (t .fields) .passed in
+      let few = g .most in
       let some = leb-true 1 (blockCount s) (and-both (leb 1 (blockCount s)) (leb (blockCount s) mostUnits) (g .counted) .0) in
       rw (t .value) (omega arith, omega arith)
 

@@ -9,7 +9,7 @@ use lib.Dec.{eqb}
 use lib.ListN.{length}
 use Rattle.numbers.specs.Bytes.{byteAt}
 use Rattle.numbers.specs.Choice.{pick}
-use Rattle.terms.specs.Reply.{Reply, is, refused, next}
+use Rattle.terms.specs.Reply.{Reply, is, refused}
 use Rattle.terms.specs.Refusals.{numberOf, whyOf, refusal}
 use Rattle.terms.specs.declared.refusal.Why.{Why}
 use Rattle.terms.specs.declared.refusal.Why.the-variants as W
@@ -28,6 +28,7 @@ use Rattle.walk.specs.declared.table.Role.{Role}
 use Rattle.walk.specs.declared.table.Role.the-variants.{Opens, Block, Closes}
 use Rattle.walk.specs.declared.table.Head.{Head}
 use Rattle.walk.specs.Table.{comes, none, roleOr, roleOf, isBlock, headIn}
+use Rattle.blocks.proofs.ByUnits.{unmade}
 use Rattle.day.specs.declared.value.Day.{Day}
 use Rattle.day.specs.Checking.{blockFieldsOf}
 use Rattle.day.specs.Offers.{headFor, dayTaken, blockTaken, endTaken, taken, offerOf}
@@ -159,15 +160,6 @@ block-kind kind k = go (eqb kind L.dayKind) (eqb kind L.groupKind) (eqb kind L.e
     go false false false e = no-block Closes refl e
 
 -- ---- from the offer to the block's units
--- what is told of a reading refuses nothing of its own
-told-of : {A B : Type 0} (x : Reply A) (f : A → B) {n p : ℕ} → next x (λ a. is (f a)) ≡ refused n p → x ≡ refused n p
-unfolding next
-told-of (is a) f e = never (sym e)
-told-of (refused m q) f {n} {p} e =
-    let z : m ≡ n = cc in
-    let y : q ≡ p = cc in
-    rw (z, y)
-
 module _ (day : Day) (s : List ℕ) (n p : ℕ) (o : Own n) where
   head-first : headFor day s ≡ refused n p → ⊥
   unfolding headFor headIn
@@ -213,7 +205,7 @@ module _ (day : Day) (s : List ℕ) (n p : ℕ) (o : Own n) where
   unfolding blockFieldsOf
   fields-first e =
       either (next-from (groupFieldsOf s (day .«record») (day .last)) _ e) (λ h. absurd (group-first h))
-      (λ g h f. told-of units _ (rw (group-read h) at f))
+      (λ g h f. unmade s (L.groupAt s 0) _ _ (rw (group-read h) at f))
 
   block-first : (room : ℕ) → blockTaken day s room ≡ refused n p → units ≡ refused n p
   unfolding blockTaken
