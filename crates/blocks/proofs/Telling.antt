@@ -1,17 +1,16 @@
 -- From the reading of a block's units to the answer: they pass with their columns, or one is refused, and so is the block; then 12, or its result.
-use Prim.Native.Nat.{ℕ, _≤_, _<_}
-use mathlib.Core.Path.{_≡_, refl, sym, ap, _∙_}
-use mathlib.Core.Bool.{Bool, true, false, false≢true}
+use Prim.Native.Nat.{ℕ, _<_}
+use mathlib.Core.Path.{_≡_, sym, ap, _∙_}
+use mathlib.Core.Bool.{true, false, false≢true}
 use mathlib.Core.List.{List}
 use native.Mathlib.Omega.{arith}
-use borrow.Author.Tests.{leb-true}
 use lib.Dec.{leb}
 use lib.IntN.{ℤ, pos}
 use lib.ListN.{length}
 use Rattle.numbers.specs.Bytes.{laidAt}
 use Rattle.numbers.specs.Column.{at}
 use Rattle.numbers.proofs.Columns.{column-length, column-at}
-use Rattle.terms.specs.Reply.{Reply, is, refused, need, next}
+use Rattle.terms.specs.Reply.{is, refused, need, next}
 use Rattle.terms.specs.Refusals.{answer, refusal}
 use Rattle.terms.specs.declared.refusal.Refusal.{Refusal}
 use Rattle.terms.proofs.Replies.{never, need-is, next-is}
@@ -30,8 +29,9 @@ use Rattle.blocks.specs.declared.decode.Reading.{Reading}
 use Rattle.blocks.specs.declared.decode.Units.{Units}
 use Rattle.blocks.specs.Blocks.{blockCount, blockResult}
 use Rattle.blocks.specs.Checking.{blockOf, blockUnitsOf}
-use Rattle.blocks.specs.Inner.{Begun, Passed, Decoded, Amounts, unitsAt, UnitsRead, UnitsTold, BlockTold, unitsTaken, blockAfter, Taking}
+use Rattle.blocks.specs.Inner.{Begun, Decoded, Amounts, unitsAt, UnitsRead, UnitsTold, BlockTold, unitsTaken, blockAfter, Taking}
 use Rattle.blocks.proofs.Units.{amounts-passed}
+use Rattle.blocks.proofs.ByUnits.{units-refuse, units-pass, made}
 
 -- the columns that were read are looked at as the units themselves
 module _ {s : List ℕ} {p : ℤ} {class taken : List ℕ} {n0 down up : List ℤ} (d : Decoded s p class taken n0 down up) where
@@ -93,19 +93,17 @@ module _ (s : List ℕ) (group : GroupRecord) (run limit : ℕ) (b : Begun s) (g
 
   module _ {r : Units} {class taken : List ℕ} {n0 down up : List ℤ} (u : UnitsTold s run limit r class taken n0 down up) where
     pub block-refused : {q : Told} {f : Refusal} → answer (r .end) ≡ refusal f → q .block ≡ B.Refused f → BlockTold s group run limit q class taken n0 down up
-    unfolding next
     block-refused e k =
         record {
-          replied = rw (k, same-count ∙ sym (u .replied) ∙ e);
+          replied = rw k (sym (units-refuse s group run limit (same-count ∙ sym (u .replied) ∙ e)));
           decoded = λ block. rw k (λ h. never h);
           passed = λ block. rw k (λ h. never h);
         }
 
     pub block-passed : {q : Told} {end : ℕ} → answer (r .end) ≡ is end → q .block ≡ B.Is (blockOf group end) → q .p ≡ r .p → BlockTold s group run limit q class taken n0 down up
-    unfolding next
     block-passed {end = end} e k p =
         record {
-          replied = rw (k, same-count ∙ sym (u .replied) ∙ e);
+          replied = rw k (sym (units-pass s group run limit (same-count ∙ sym (u .replied) ∙ e)));
           decoded = λ block _. rw p (u .decoded end e);
           passed = λ block _. record { run = run; limit = limit; end = end; long = b .long; few = b .few; units = sym (u .replied) ∙ e };
         }
@@ -127,10 +125,7 @@ module _ (s : List ℕ) (group : GroupRecord) (run limit : ℕ) (entry : List �
 
     -- a block's result is as long as its count says
     pub taken-long : group ≡ groupAt s 0 → block .written ≡ resultLength (blockCount s)
-    taken-long g =
-        let a = next-is _ _ (sym e) in
-        let v : block ≡ blockOf group (a .0) = cc (a .1 .1) in
-        rw (v, g)
+    taken-long g = rw (made s group run limit (sym e) .value, g)
 
   pub took-long : {block : Block} → is block ≡ unitsTaken s group run limit (length entry) → group ≡ groupAt s 0 → block .written ≡ resultLength (blockCount s)
   unfolding unitsTaken

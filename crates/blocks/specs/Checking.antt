@@ -17,7 +17,7 @@ abbrev pub blockOf : GroupRecord → ℕ → Block
 blockOf group end = record { key = keyOf group; count = group .count; used = end; written = resultLength (group .count) }
 
 -- each unit in turn, at a run minute and an age limit of margins
-abbrev pub blockUnitsOf : List ℕ → GroupRecord → ℕ → ℕ → Reply Block
+unfoldable pub blockUnitsOf : List ℕ → GroupRecord → ℕ → ℕ → Reply Block
 blockUnitsOf s group run limit =
     next (unitsOf s groupLength 0 run limit (group .count)) λ end.
     is (blockOf group end)

@@ -14,11 +14,9 @@ use Rattle.terms.specs.Reply.{is, next}
 use Rattle.terms.specs.Refusals.{answer}
 use Rattle.terms.specs.declared.refusal.Answer.{Answer}
 use Rattle.terms.proofs.Replies.{need-is, next-is}
-use Rattle.records.specs.declared.group.GroupRecord.{GroupRecord}
 use Rattle.records.specs.Layouts.{dayKind, dayLength, dayAt, groupKind, groupLength, groupAt, endKind, endLength, endAt}
-use Rattle.records.specs.Reading.{permitted, headOf, dayFieldsOf, dayOf, groupFieldsOf, groupOf, endFieldsOf, endOf, unitsOf, unitPlace}
+use Rattle.records.specs.Reading.{permitted, headOf, dayFieldsOf, dayOf, groupOf, endFieldsOf, endOf, unitPlace}
 use Rattle.records.proofs.Heads.{whole-head}
-use Rattle.records.proofs.Read.{group-passed}
 use Rattle.writers.specs.Columns.{columnsIn}
 use Rattle.writers.specs.Writing.{DayWritten, EndWritten, BlockWritten}
 use Rattle.writers.proofs.Again.{day-again, end-again}
@@ -30,17 +28,15 @@ use Rattle.walk.specs.declared.table.Role.the-variants.{Opens, Block, Closes}
 use Rattle.walk.specs.declared.table.Head.{Head}
 use Rattle.walk.specs.Table.{comes, none, body, roleOf, mayCome}
 use Rattle.walk.proofs.Coming.{lengthIn, block-open}
-use Rattle.blocks.specs.declared.check.Block as checked
 use Rattle.blocks.specs.Blocks.{blockCount}
-use Rattle.blocks.specs.Checking.{blockOf}
 use Rattle.day.specs.declared.value.Day.{Day}
 use Rattle.day.specs.declared.offer.Step.{Step}
 use Rattle.day.specs.declared.offer.Offered.the-variants as O
 use Rattle.day.specs.Days.{opened, closed, couldBeOpen, possible}
-use Rattle.day.specs.Checking.{blockFieldsOf}
 use Rattle.day.specs.Offers.{headFor, dayTaken, endTaken, taken, offerOf, Offers}
 use Rattle.day.proofs.ByKind.{head-came, offer-day, offer-end}
-use Rattle.day.proofs.Outcomes.{TakenBlock, taken-block, reply}
+use Rattle.day.proofs.Read.{read}
+use Rattle.day.proofs.Outcomes.{taken-block, reply}
 
 -- the kind of each record that may come
 abbrev kindAs : Role → ℕ
@@ -120,20 +116,14 @@ module _ (day : Day) (s entry : List ℕ) {step : Step} {exit : List ℕ} (o : O
     pub block-same : roleOf (byteAt s 0) ≡ Block
         → BlockWritten (groupAt s 0 .brp) (groupAt s 0 .zone) (groupAt s 0 .quarter) (groupAt s 0 .made) (columnsIn s (blockCount s)) room r left
         → (answer r ≡ is (step .used)) × (take (step .used) left ≡ take (step .used) s)
-    unfolding blockFieldsOf groupOf next
+    unfolding groupOf next
     block-same k w =
         let q = role-is Block k in
         let head = came .0 in
         let c = came .1 .0 in
         let t = taken-block day s (length entry) (reply day s entry o) k in
-        let a = next-is (groupFieldsOf s (day .«record») (day .last)) _ (t .fields) in
-        let b = next-is (unitsOf s groupLength 0 (day .«record» .run) (day .«record» .«margin_limit») (a .0 .count)) _ (a .1 .1) in
-        let g = group-passed s (day .«record») (day .last) (a .1 .0) .value in
-        let v : blockOf (a .0) (b .0) ≡ blockOf (groupAt s 0) (unitPlace s (blockCount s)) = cc (b .1 .1) in
-        let n : b .0 ≡ unitPlace s (blockCount s) = ap (λ (x : checked.Block). x .used) v in
+        let b = read day s (t .long) (t .fields) in
         let u : step .used ≡ unitPlace s (blockCount s) = ap (λ (x : Step). x .used) (t .value) in
-        let e : groupOf s (day .«record») (day .last) ≡ is (groupAt s 0) = rw (own-head day s head c Block q) (a .1 .0 ∙ ap is g) in
-        let f : unitsOf s groupLength 0 (day .«record» .run) (day .«record» .«margin_limit») (blockCount s) ≡ is (unitPlace s (blockCount s)) =
-        ap (λ (x : GroupRecord). unitsOf s groupLength 0 (day .«record» .run) (day .«record» .«margin_limit») (x .count)) (sym g) ∙ b .1 .0 ∙ ap is n in
+        let e : groupOf s (day .«record») (day .last) ≡ is (groupAt s 0) = rw (own-head day s head c Block q) (b .group) in
         let p = quarters-permitted day s head c (block-open (day .state) (head .role) (head-came day s head c .which) q) in
-        rw u (block-again s small (day .«record») (day .last) (groupAt s 0) p e f (omega arith) w)
+        rw u (block-again s small (day .«record») (day .last) (groupAt s 0) p e (b .units) (omega arith) w)

@@ -12,7 +12,7 @@ use Rattle.numbers.specs.Choice.{pick}
 use Rattle.numbers.specs.Column.{column}
 use Rattle.numbers.specs.Sum.{bit}
 use Rattle.numbers.proofs.Columns.{column-ext}
-use Rattle.terms.specs.Reply.{Reply, is, refused, next}
+use Rattle.terms.specs.Reply.{Reply, is, next}
 use Rattle.terms.proofs.Replies.{need-is, next-is}
 use Rattle.records.specs.declared.group.GroupRecord.{GroupRecord}
 use Rattle.records.specs.declared.unit.UnitRecord.{UnitRecord}
@@ -20,7 +20,7 @@ use Rattle.records.specs.declared.key.Key.{Key}
 use Rattle.records.specs.Layouts.{groupLength, marginsOf, endLength}
 use Rattle.records.specs.Reading.{dayEnd, unitPlace, keyOf, unitIn}
 use Rattle.records.specs.Decoding.{unitN0, unitImplicit}
-use Rattle.records.proofs.Alike.{Agree, agree, group-same, day-kept, group-kept, end-kept, units-kept, units-same}
+use Rattle.records.proofs.Alike.{Agree, agree, group-same, day-kept, group-kept, end-kept, units-same}
 use Rattle.records.proofs.Accepted.{units-accepted}
 use Rattle.records.proofs.Places.{place-up, place-from}
 use Rattle.records.proofs.Fields.{past}
@@ -33,11 +33,12 @@ use Rattle.day.specs.declared.value.Day.{Day}
 use Rattle.blocks.specs.declared.check.Block.{Block}
 use Rattle.day.specs.declared.offer.Step.{Step}
 use Rattle.day.specs.Days.{opened, counted, closed}
-use Rattle.blocks.specs.Checking.{blockOf}
+use Rattle.blocks.proofs.ByUnits.{made, block-alike}
 use Rattle.day.specs.Checking.{blockFieldsOf}
 use Rattle.blocks.specs.Blocks.{resultIn, blockKey, blockCount, blockResult}
 use Rattle.day.specs.Offers.{headFor, dayTaken, blockTaken, endTaken, taken, offerOf, writtenOf}
 use Rattle.day.proofs.ByKind.{head-came}
+use Rattle.day.proofs.Read.{read}
 use Rattle.day.proofs.Outcomes.{taken-block}
 
 -- past a reading that was not refused, the whole is what comes after it
@@ -59,10 +60,9 @@ module _ (s t : List ℕ) (n : ℕ) (a : Agree s t n) where
   unfolding blockFieldsOf
   fields-kept day {block} h k e =
       let x = next-is _ _ e in
-      let y = next-is _ _ (x .1 .1) in
-      let v : block ≡ blockOf (x .0) (y .0) = cc (y .1 .1) in
-      let u = units-kept s t n a groupLength 0 _ _ _ (omega (arith, ap (λ (b : Block). b .used) v)) (y .1 .0) in
-      onward _ _ (group-kept s t n a (day .«record») (day .last) h ∙ x .1 .0) (onward _ _ u (y .1 .1))
+      let m = made s (x .0) _ _ (x .1 .1) in
+      let u = block-alike s t n a (x .0) _ _ (omega (arith, ap (λ (b : Block). b .used) (m .value))) (m .passed) in
+      onward _ _ (group-kept s t n a (day .«record») (day .last) h ∙ x .1 .0) (u ∙ x .1 .1)
 
   block-kept : (day : Day) (room : ℕ) {step : Step} → groupLength ≤ n → step .used ≤ n → blockTaken day s room ≡ is step → blockTaken day t room ≡ is step
   unfolding blockTaken
@@ -98,14 +98,11 @@ record Lies (first used long : ℕ) : Type 0 where
   pub inside : used ≤ long
 
 fields-lie : (day : Day) (s : List ℕ) {block : Block} → groupLength ≤ length s → blockFieldsOf day s ≡ is block → Lies groupLength (block .used) (length s)
-unfolding blockFieldsOf
 fields-lie day s {block} h e =
-    let a = next-is _ _ e in
-    let b = next-is _ _ (a .1 .1) in
-    let v : block ≡ blockOf (a .0) (b .0) = cc (b .1 .1) in
-    let u = ap (λ (x : Block). x .used) v in
-    let k = units-accepted s groupLength 0 _ _ _ h (b .1 .0) in
-    record { from = omega (arith, k .ends, place-from s groupLength (a .0 .count)); inside = omega (arith, k .within) }
+    let r = read day s h e in
+    let u = ap (λ (x : Block). x .used) (r .value) in
+    let k = units-accepted s groupLength 0 _ _ _ h (r .units) in
+    record { from = omega (arith, place-from s groupLength (blockCount s)); inside = omega (arith, k .within) }
 
 module _ (day : Day) (s : List ℕ) (room : ℕ) {step : Step} where
   day-lies : (end : ℕ) → dayTaken s end ≡ is step → end ≡ step .used

@@ -28,8 +28,7 @@ use Rattle.day.proofs.Taking.{refuses, takes}
 use Rattle.day.proofs.Read.{read}
 use Rattle.day.proofs.Outcomes.{TakenBlock, taken-block, reply, laid-out, result-at-front, rest-kept}
 use Rattle.blocks.proofs.ReadBack.{group-back, unit-back}
-use Rattle.records.proofs.Sayable.{Sayable, value, reason}
-use Rattle.day.proofs.Sayable.{offer-sayable}
+use Rattle.day.proofs.Sayable.{Sayable, value, reason, offer-sayable}
 use Rattle.day.proofs.Unique.{Same, offering-unique}
 
 -- ---- Demand 1

@@ -7,6 +7,7 @@ pub mod ByKind
 pub mod BlockAlone
 pub mod Outcomes
 pub mod Beyond
+pub mod Numbers
 pub mod Stands
 pub mod Walking
 pub mod Sayable

@@ -1,7 +1,7 @@
 -- Every day that a run of calls gives is possible: the keys of its blocks rise strictly, so there are no more groups than keys up to the last one.
 use Prim.Native.Nat.{ℕ, _+_, _*_, _≤_, _<_}
 use mathlib.Core.Path.{_≡_, refl, sym, ap, _∙_}
-use mathlib.Core.Bool.{Bool, true, false, not, _||_}
+use mathlib.Core.Bool.{Bool, true, false, _||_}
 use mathlib.Core.List.{List}
 use native.Mathlib.Omega.{arith}
 use borrow.Author.Tests.{eqb-true, ltb-true, ne-eqb}
@@ -17,24 +17,22 @@ use Rattle.records.specs.declared.key.Key.{Key}
 use Rattle.records.specs.declared.key.Last.{Last}
 use Rattle.records.specs.declared.key.Last.the-variants as L
 use Rattle.records.specs.Layouts.{dayAt, groupAt}
-use Rattle.records.specs.Reading.{permitted, below, follows, dayFieldsOf, endFieldsOf, groupFieldsOf}
-use Rattle.records.proofs.Read.{group-passed}
+use Rattle.records.specs.Reading.{permitted, below, follows, dayFieldsOf, endFieldsOf}
 use Rattle.walk.specs.declared.table.State.{State}
 use Rattle.walk.specs.declared.table.State.the-variants.{Fresh, Open, Closed}
 use Rattle.walk.specs.declared.table.Role.{Role}
 use Rattle.walk.specs.declared.table.Role.the-variants.{Opens, Block, Closes}
-use Rattle.walk.specs.declared.table.Head.{Head}
 use Rattle.walk.specs.Table.{roleOf, rowOf}
 use Rattle.blocks.specs.Blocks.{blockKey}
 use Rattle.day.specs.declared.value.Day.{Day}
 use Rattle.day.specs.declared.offer.Step.{Step}
 use Rattle.day.specs.declared.offer.Offered.{Offered}
 use Rattle.day.specs.declared.offer.Offered.the-variants as O
-use Rattle.day.specs.Days.{fresh, opened, counted, closed, couldBeOpen, possibleIn, possible}
-use Rattle.day.specs.Checking.{blockFieldsOf}
+use Rattle.day.specs.Days.{opened, closed, possibleIn, possible}
 use Rattle.day.specs.Offers.{headFor, dayTaken, endTaken, taken, offerOf, dayAfter, dayBack, Offering, Offers, OffersBlock}
 use Rattle.day.specs.Reached.{Reached, begun, offered, alone}
 use Rattle.day.proofs.ByKind.{head-came}
+use Rattle.day.proofs.Read.{read}
 use Rattle.day.proofs.Outcomes.{taken-block, reply}
 use Rattle.day.proofs.BlockAlone.{alone-block, alone-offered}
 
@@ -118,11 +116,11 @@ module _ (day : Day) (s : List ℕ) (small : Bytes s) (good : Good day) (room : 
       absurd (omega (arith, ap rowOf z))
 
   block-good : roleOf (byteAt s 0) ≡ Block → Good (step .day)
-  unfolding blockFieldsOf HeldLast
+  unfolding HeldLast
   block-good k p =
       let t = taken-block day s room e k in
       let before = good (sym (ap (λ (x : Step). x .day .state) (t .value)) ∙ p) in
-      let g = group-passed s (day .«record») (day .last) (next-is (groupFieldsOf s (day .«record») (day .last)) _ (t .fields) .1 .0) in
+      let g = read day s (t .long) (t .fields) .passed in
       let key = key-held s small _ (most _ (before .quarters)) (g .early) in
       let up = follows-up (day .last) (blockKey s) (before .last) key (g .after) in
       rw (t .value) (record { quarters = before .quarters; last = key; groups = omega (arith, before .groups, up) })

@@ -1,47 +1,29 @@
--- Every reply of an offer is one that an answer gives: each refusal in it has a reason's number, through every definition that it is made of.
+-- Every reply of an offer is one that an answer gives: each number that it can be refused with is a reason's.
 use Prim.Native.Nat.{ℕ}
+use mathlib.Core.Path.{_≡_, refl}
 use mathlib.Core.List.{List}
-use Rattle.terms.specs.declared.refusal.Why.the-variants as W
-use Rattle.records.proofs.Sayable.{Sayable, value, say-need, say-next, say-day, say-group, say-end, say-units}
-use Rattle.walk.specs.declared.table.State.{State}
-use Rattle.walk.specs.declared.table.Role.{Role}
-use Rattle.walk.specs.declared.table.Role.the-variants.{Opens, Block, Closes}
-use Rattle.walk.specs.Table.{headIn}
+use borrow.Author.Tests.{eqb-true}
+use lib.Dec.{eqb}
+use Rattle.terms.specs.Reply.{Reply, is, refused}
+use Rattle.terms.specs.Refusals.{numberOf, refusal}
+use Rattle.terms.specs.declared.refusal.Refusal.{Refusal}
+use Rattle.terms.proofs.Same.{whyBy}
+use Rattle.terms.proofs.Numbers.{each, By}
+use Rattle.terms.proofs.Numbers as numbers
 use Rattle.day.specs.declared.value.Day.{Day}
-use Rattle.day.specs.Checking.{blockFieldsOf}
-use Rattle.day.specs.Offers.{headFor, dayTaken, blockTaken, endTaken, taken, offerOf}
+use Rattle.day.specs.Offers.{offerOf}
+use Rattle.day.proofs.Numbers.{offerNumbers, by-offer}
 
-module _ (s : List ℕ) where
-  head-in : (at : ℕ) (state : State) → Sayable (headIn s at state)
-  unfolding headIn
-  head-in at state = say-need _ W.CutShort _ (say-need _ W.Kind _ (say-need _ W.CutShort _ (value _)))
+pub data Sayable {A : Type 0} : Reply A → Type 0 where
+  value : (a : A) → Sayable (is a)
+  reason : (r : Refusal) → Sayable (refusal r)
 
-  module _ (day : Day) where
-    head-for : Sayable (headFor day s)
-    unfolding headFor
-    head-for = say-need _ W.CutShort _ (say-need _ W.Kind _ (head-in 0 (day .state)))
+said : {A : Type 0} {x : Reply A} → By offerNumbers x → Sayable x
+said (numbers.value a) = value a
+said {A} (numbers.number n p k) = go (numberOf (whyBy n)) (eqb-true (numberOf (whyBy n)) n (each (λ m. eqb (numberOf (whyBy m)) m) offerNumbers n refl k)) (reason (record { why = whyBy n; place = p }))
+  where
+    go : (m : ℕ) → m ≡ n → Sayable {A = A} (refused m p) → Sayable {A = A} (refused n p)
+    go m e h = rw e at h
 
-    block-fields : Sayable (blockFieldsOf day s)
-    unfolding blockFieldsOf
-    block-fields = say-next (say-group s _ _) (λ g. say-next (say-units s _ _ _ _ _) (λ end. value _))
-
-    day-taken : (end : ℕ) → Sayable (dayTaken s end)
-    unfolding dayTaken
-    day-taken end = say-next (say-day s) (λ d. value _)
-
-    block-taken : (room : ℕ) → Sayable (blockTaken day s room)
-    unfolding blockTaken
-    block-taken room = say-next block-fields (λ b. say-need _ W.Room _ (value _))
-
-    end-taken : (end : ℕ) → Sayable (endTaken day s end)
-    unfolding endTaken
-    end-taken end = say-next (say-end s _) (λ e. value _)
-
-    by-role : (room : ℕ) (role : Role) (end : ℕ) → Sayable (taken day s room role end)
-    by-role room Opens end = day-taken end
-    by-role room Block end = block-taken room
-    by-role room Closes end = end-taken end
-
-    pub offer-sayable : (room : ℕ) → Sayable (offerOf day s room)
-    unfolding offerOf
-    offer-sayable room = say-next head-for (λ h. by-role room (h .role) (h .end))
+pub offer-sayable : (s : List ℕ) (day : Day) (room : ℕ) → Sayable (offerOf day s room)
+offer-sayable s day room = said (by-offer day s room)

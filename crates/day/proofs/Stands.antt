@@ -1,29 +1,26 @@
 -- A reply that is not 1 stands whatever bytes come behind: each test reads only bytes that are there, and only those of the length can turn out otherwise.
 use Prim.Native.Nat.{ℕ, zero, suc, _+_, _*_, _≤_, _<_}
 use mathlib.Core.Path.{_≡_, refl, sym, ap, _∙_}
-use mathlib.Core.Bool.{Bool, true, false, false≢true}
-use mathlib.Core.List.{List, _++_}
+use mathlib.Core.Bool.{Bool, true, false, not, false≢true}
+use mathlib.Core.List.{List, [], _∷_, _++_}
 use native.Mathlib.Omega.{arith}
-use borrow.Author.Tests.{ltb-true, ltb-false, leb-true, eqb-true, lt-ltb, le-leb}
+use borrow.Author.Tests.{ltb-true, ltb-false, leb-true, lt-ltb, le-leb}
 use lib.Dec.{eqb, ltb}
 use lib.ListN.{length}
 use lib.Seq.{take-append-le}
 use Rattle.numbers.specs.Bytes.{byteAt}
 use Rattle.terms.specs.Reply.{Reply, is, refused, need, next}
-use Rattle.terms.specs.Refusals.{numberOf, whyOf, passed}
-use Rattle.terms.specs.declared.refusal.Fault.{Fault}
-use Rattle.terms.specs.declared.refusal.Fault.the-variants as F
-use Rattle.terms.specs.declared.refusal.Checked.{Checked}
-use Rattle.terms.specs.declared.refusal.Checked.the-variants.{Fine, Faulty}
+use Rattle.terms.proofs.Numbers.{each, By, value, number, by-more, by-without, by-need, by-sure, by-next}
 use Rattle.records.specs.declared.group.GroupRecord.{GroupRecord}
 use Rattle.records.specs.declared.unit.UnitRecord.{UnitRecord}
-use Rattle.records.specs.Layouts.{groupLength, groupAt, unitAt, lengthOf, longestUnit}
-use Rattle.records.specs.Reading.{unitHeadOf, unitEnd, placeFrom, dayFieldsOf, groupFieldsOf, endFieldsOf, faultPlace, unitFaults, unitFieldsOf, unitOf, unitsOf}
+use Rattle.records.specs.Layouts.{groupLength, unitAt, lengthOf, longestUnit}
+use Rattle.records.specs.Reading.{unitHeadOf, unitEnd, placeFrom, unitFieldsOf, unitOf, unitsOf}
 use Rattle.records.specs.Longest.{longestBlock}
 use Rattle.records.proofs.Alike.{Agree, agree, day-kept, group-kept, end-kept, units-same}
+use Rattle.records.proofs.Accepted.{units-accepted}
 use Rattle.records.proofs.UnitHeads.{unit-most, unit-there, unit-longer, read-long, unit-long}
 use Rattle.records.proofs.Read.{group-passed}
-use Rattle.records.proofs.Ages.{of-position}
+use Rattle.records.proofs.Numbers.{dayNumbers, groupNumbers, endNumbers, by-head, by-group, by-unit}
 use Rattle.walk.specs.declared.table.State.{State}
 use Rattle.walk.specs.declared.table.Role.{Role}
 use Rattle.walk.specs.declared.table.Role.the-variants as R
@@ -31,26 +28,20 @@ use Rattle.walk.specs.Table.{headAt, headIn}
 use Rattle.walk.proofs.Bodies.{body-short}
 use Rattle.walk.proofs.Coming.{lengthIn}
 use Rattle.day.specs.declared.value.Day.{Day}
-use Rattle.blocks.specs.declared.check.Block.{Block}
+use Rattle.blocks.specs.Checking.{blockUnitsOf}
+use Rattle.blocks.proofs.ByUnits.{units-refuse, block-alike}
 use Rattle.day.specs.Checking.{blockFieldsOf}
 use Rattle.day.specs.Offers.{headFor, dayTaken, blockTaken, endTaken, taken, offerOf, cutShort}
 use Rattle.day.proofs.ByKind.{head-came}
+use Rattle.day.proofs.Numbers.{uncutNumbers, by-opens, by-taken, by-closes}
 
 -- the first reply, unless it is 1, is the second
 abbrev Stands : {A : Type 0} → Reply A → Reply A → Type 0
 Stands x y = cutShort x ≡ false → y ≡ x
 
--- what is cut short is refused by 1, and nothing else is
-uncut : {A : Type 0} (x : Reply A) → cutShort x ≡ false → (p : ℕ) → x ≡ refused 1 p → ⊥
-uncut {A} x c p e = false≢true (sym c ∙ ap (λ (r : Reply A). cutShort r) e)
-
-uncut-by : {A : Type 0} (x : Reply A) → ((p : ℕ) → x ≡ refused 1 p → ⊥) → cutShort x ≡ false
-uncut-by (is a) h = refl
-uncut-by (refused n p) h = go (eqb n 1) refl
-  where
-    go : (t : Bool) → eqb n 1 ≡ t → t ≡ false
-    go true e = absurd (h p (rw (eqb-true n 1 e)))
-    go false e = refl
+-- what is not cut short is not refused by 1
+not-by-1 : {A : Type 0} (x : Reply A) → cutShort x ≡ false → (p : ℕ) → x ≡ refused 1 p → ⊥
+not-by-1 {A} x c p e = false≢true (sym c ∙ ap (λ (r : Reply A). cutShort r) e)
 
 -- ---- reply by reply
 module _ {A B : Type 0} where
@@ -81,7 +72,7 @@ module _ (s t : List ℕ) (a : Agree s t (length s)) where
   unit-same at h = units-same s t (length s) a at 0 h
 
   unit-head-stands : (at : ℕ) → Stands (unitHeadOf s at) (unitHeadOf t at)
-  unit-head-stands at c = unit-longer s t at (a .long) (a .same at) (uncut (unitHeadOf s at) c)
+  unit-head-stands at c = unit-longer s t at (a .long) (a .same at) (not-by-1 (unitHeadOf s at) c)
 
   unit-stands : (at floor run limit : ℕ) → Stands (unitOf s at floor run limit) (unitOf t at floor run limit)
   unfolding unitOf unitFieldsOf
@@ -96,12 +87,22 @@ module _ (s t : List ℕ) (a : Agree s t (length s)) where
       ap (λ (to : ℕ). unitsOf t to (u .number + 1) run limit left) k ∙ units-stand (unitEnd s at) (u .number + 1) run limit left c
 
   -- ---- what is offered
+  block-units-stand : (g : GroupRecord) (run limit : ℕ) → groupLength ≤ length s → Stands (blockUnitsOf s g run limit) (blockUnitsOf t g run limit)
+  block-units-stand g run limit h c = go (unitsOf s groupLength 0 run limit (g .count)) refl
+    where
+      go : (x : Reply ℕ) → unitsOf s groupLength 0 run limit (g .count) ≡ x → blockUnitsOf t g run limit ≡ blockUnitsOf s g run limit
+      go (is end) e = block-alike s t (length s) a g run limit (units-accepted s groupLength 0 run limit (g .count) h e .within) e
+      go (refused n p) e =
+          let r = units-refuse s g run limit e in
+          let u = units-stand groupLength 0 run limit (g .count) (ap cutShort e ∙ sym (ap cutShort r) ∙ c) in
+          units-refuse t g run limit (u ∙ e) ∙ sym r
+
   block-stands : (day : Day) (room : ℕ) → groupLength ≤ length s → Stands (blockTaken day s room) (blockTaken day t room)
   unfolding blockTaken blockFieldsOf
   block-stands day room h =
       then _ _ _ _
       (rw (group-kept s t (length s) a (day .«record») (day .last) h)
-      (then _ _ _ _ (λ c. refl) λ g e. then _ _ _ _ (units-stand groupLength 0 (day .«record» .run) (day .«record» .«margin_limit») (g .count)) λ end f c. refl))
+      (then _ _ _ _ (λ c. refl) λ g e. block-units-stand g (day .«record» .run) (day .«record» .«margin_limit») h))
       λ block e c. refl
 
   taken-stands : (day : Day) (room : ℕ) (role : Role) (end : ℕ) → lengthIn role s 0 ≤ length s → Stands (taken day s room role end) (taken day t room role end)
@@ -137,77 +138,40 @@ offer-stands day s t room =
     stands s (s ++ t) (agree s (s ++ t) (length s) (omega arith) (sym (take-append-le (length s) s t (omega arith)))) day room
 
 -- ---- with as many bytes as the longest block has, nothing is cut short
-module _ {A : Type 0} where
-  passes : (x : Reply A) (t : Bool) (n p : ℕ) → eqb n 1 ≡ false → cutShort x ≡ false → cutShort (need t n p x) ≡ false
-  unfolding need
-  passes x true n p m h = h
-  passes x false n p m h = m
-
-  fits : (x : Reply A) (t : Bool) (p : ℕ) → t ≡ true → cutShort x ≡ false → cutShort (need t 1 p x) ≡ false
-  unfolding need
-  fits x t p e h = rw e h
-
-  goes : {B : Type 0} (x : Reply B) (f : B → Reply A) → cutShort x ≡ false → ((b : B) → x ≡ is b → cutShort (f b) ≡ false) → cutShort (next x f) ≡ false
-  unfolding next
-  goes (is b) f h k = k b refl
-  goes (refused n p) f h k = h
-
-fault-other : (f : Fault) → eqb (numberOf (whyOf f)) 1 ≡ false
-fault-other F.Number = refl
-fault-other F.Class = refl
-fault-other F.Coincide = refl
-fault-other F.Nominated = refl
-fault-other F.NotNominated = refl
-fault-other F.N = refl
-fault-other F.Pc = refl
-fault-other F.StepDown = refl
-fault-other F.StepUp = refl
-fault-other F.Crossed = refl
-fault-other F.Ahead = refl
-fault-other F.Age = refl
-
 module _ (s : List ℕ) where
-  unit-enough : (at floor run limit : ℕ) → at + longestUnit ≤ length s → cutShort (unitOf s at floor run limit) ≡ false
-  unfolding unitOf unitFieldsOf passed
-  unit-enough at floor run limit h = goes _ _ (uncut-by (unitHeadOf s at) (unit-there s at h)) λ end e. go (unitFaults (unitAt s at) floor run limit)
-    where
-      go : (x : Checked) → cutShort (passed (λ fault. at + faultPlace fault) x (is (unitAt s at))) ≡ false
-      go Fine = refl
-      go (Faulty f) = fault-other f
+  unit-enough : (at floor run limit : ℕ) → at + longestUnit ≤ length s → By uncutNumbers (unitOf s at floor run limit)
+  unit-enough at floor run limit h =
+      by-unit s uncutNumbers at floor run limit refl (by-more (2 ∷ []) uncutNumbers refl (by-without 1 (2 ∷ []) (unit-there s at h) (by-head s at _ _)))
 
-  units-enough : (at floor run limit count : ℕ) → at + longestUnit * count ≤ length s → cutShort (unitsOf s at floor run limit count) ≡ false
+  units-enough : (at floor run limit count : ℕ) → at + longestUnit * count ≤ length s → By uncutNumbers (unitsOf s at floor run limit count)
   unfolding unitsOf
-  units-enough at floor run limit zero h = refl
+  units-enough at floor run limit zero h = value at
   units-enough at floor run limit (suc left) h =
-      goes _ _ (unit-enough at floor run limit (omega arith)) λ u e.
+      by-next (unit-enough at floor run limit (omega arith)) λ u e.
       units-enough (unitEnd s at) (u .number + 1) run limit left (omega (arith, unit-most s at))
 
-  module _ (most : longestBlock ≤ length s) where
-    block-enough : (day : Day) (room : ℕ) → cutShort (blockTaken day s room) ≡ false
-    unfolding blockTaken blockFieldsOf groupFieldsOf
-    block-enough day room =
-        goes _ _
-        (goes _ _ group-enough λ g e.
+  module _ (most : longestBlock ≤ length s) (day : Day) (room : ℕ) where
+    taken-enough : (role : Role) (end : ℕ) → By uncutNumbers (taken day s room role end)
+    taken-enough R.Opens end = by-more dayNumbers uncutNumbers refl (by-opens day s end)
+    taken-enough R.Block end =
+        by-taken day s uncutNumbers refl (by-more groupNumbers uncutNumbers refl (by-group s _ _))
+        (λ g e.
         let p = group-passed s (day .«record») (day .last) e in
-        goes _ _ (units-enough groupLength 0 (day .«record» .run) (day .«record» .«margin_limit») (g .count) (omega (arith, p .most, ap (λ (x : GroupRecord). x .count) (p .value)))) λ end f. refl)
-        λ block e. passes _ _ 12 0 refl refl
-      where
-        group-enough : cutShort (groupFieldsOf s (day .«record») (day .last)) ≡ false
-        group-enough = passes _ _ 4 _ refl (passes _ _ 5 _ refl (passes _ _ 13 _ refl (passes _ _ _ _ (of-position (λ n. eqb n 1 ≡ false) refl refl (day .«record» .run) (groupAt s 0 .made)) refl)))
+        units-enough groupLength 0 _ _ (g .count) (omega (arith, p .most, ap (λ (x : GroupRecord). x .count) (p .value))))
+        room
+    taken-enough R.Closes end = by-more endNumbers uncutNumbers refl (by-closes day s end)
 
-    taken-enough : (day : Day) (room : ℕ) (role : Role) (end : ℕ) → cutShort (taken day s room role end) ≡ false
-    unfolding dayTaken dayFieldsOf endTaken endFieldsOf
-    taken-enough day room R.Opens end = goes _ _ (passes _ _ 3 _ refl refl) λ d e. refl
-    taken-enough day room R.Block end = block-enough day room
-    taken-enough day room R.Closes end = goes _ _ (passes _ _ 14 _ refl refl) λ d e. refl
-
-    enough : (day : Day) (room : ℕ) → cutShort (offerOf day s room) ≡ false
+    enough : By uncutNumbers (offerOf day s room)
     unfolding offerOf headFor headIn
-    enough day room =
+    enough =
         let long = le-leb (headAt s 0 (day .state) .end) (length s) (omega (arith, body-short (day .state) (byteAt s 0))) in
         let some = lt-ltb 0 (length s) (omega arith) in
-        goes _ _ (fits _ _ _ some (passes _ _ 2 0 refl (fits _ _ _ some (passes _ _ 2 0 refl (fits _ _ _ long refl))))) λ head e.
-        taken-enough day room (head .role) (head .end)
+        by-next (by-sure _ 1 _ some (by-need _ 2 _ refl (by-sure _ 1 _ some (by-need _ 2 _ refl (by-sure _ 1 _ long (value _)))))) λ head e.
+        taken-enough (head .role) (head .end)
+
+uncut : {A : Type 0} {x : Reply A} → By uncutNumbers x → cutShort x ≡ true → ⊥
+uncut (value a) e = false≢true e
+uncut (number n p k) e = false≢true (sym (ap not e) ∙ each (λ m. not (eqb m 1)) uncutNumbers n refl k)
 
 -- so what is cut short is shorter than the longest block
 pub cut-short : (day : Day) (s : List ℕ) (room : ℕ) → cutShort (offerOf day s room) ≡ true → length s < longestBlock
@@ -215,7 +179,4 @@ cut-short day s room e = go (ltb (length s) longestBlock) refl
   where
     go : (t : Bool) → ltb (length s) longestBlock ≡ t → length s < longestBlock
     go true q = ltb-true (length s) longestBlock q
-    go false q =
-        let f = enough s (ltb-false (length s) longestBlock q) day room in
-        let z : _≡_ {A = ℕ} 0 1 = cc in
-        absurd (omega arith)
+    go false q = absurd (uncut (enough s (ltb-false (length s) longestBlock q) day room) e)

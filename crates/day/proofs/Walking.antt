@@ -9,9 +9,8 @@ use lib.Seq.{getD-append-add}
 use Rattle.numbers.specs.Bytes.{byteAt}
 use Rattle.terms.specs.Reply.{is, need, next}
 use Rattle.terms.proofs.Replies.{next-is}
-use Rattle.records.specs.declared.group.GroupRecord.{GroupRecord}
 use Rattle.records.specs.Layouts.{groupLength, groupCount, groupAt}
-use Rattle.records.specs.Reading.{unitHeadOf, unitEnd, dayFieldsOf, groupFieldsOf, endFieldsOf, unitOf, unitsOf}
+use Rattle.records.specs.Reading.{unitHeadOf, unitEnd, dayFieldsOf, endFieldsOf, unitOf, unitsOf}
 use Rattle.records.proofs.UnitHeads.{unit-past, read-end, read-long, unit-moved}
 use Rattle.walk.specs.declared.table.State.{State}
 use Rattle.walk.specs.declared.table.State.the-variants.{Fresh, Open, Closed}
@@ -26,14 +25,13 @@ use Rattle.walk.proofs.Visits.{walk-visits}
 use Rattle.day.specs.declared.value.Day.{Day}
 use Rattle.blocks.specs.declared.check.Block as checked
 use Rattle.day.specs.Days.{fresh, opened, closed}
-use Rattle.blocks.specs.Checking as Checking
 use Rattle.day.specs.Checking.{blockFieldsOf}
 use Rattle.day.specs.declared.offer.Step.{Step}
 use Rattle.day.specs.Offers.{headFor, dayTaken, endTaken, offerOf}
 use Rattle.day.specs.WholeDays.{Part, part, joined, extentsFrom, Run, none, more, AcceptedDay}
 use Rattle.day.proofs.ByKind.{head-read, head-came, offer-day, offer-end}
+use Rattle.day.proofs.Read.{read}
 use Rattle.day.proofs.Outcomes.{taken-block, reply}
-use Rattle.records.proofs.Read.{group-passed}
 
 -- the bytes s stand in t from a place on
 record Stand (t : List ℕ) (at : ℕ) (s : List ℕ) : Type 0 where
@@ -75,17 +73,10 @@ module _ (t : List ℕ) (at : ℕ) (s : List ℕ) (a : Stand t at s) where
     count-there = a .same (groupCount .place) (omega arith)
 
     block-there : {x : checked.Block} → blockFieldsOf day s ≡ is x → blockEndOf t at ≡ is (at + x .used)
-    unfolding blockFieldsOf blockEndOf need
-    block-there {x} e =
-        let g = next-is (groupFieldsOf s (day .«record») (day .last)) _ e in
-        let p = group-passed s (day .«record») (day .last) (g .1 .0) in
-        let u =
-        next-is (unitsOf s groupLength 0 (day .«record» .run) (day .«record» .«margin_limit») (g .0 .count)) (λ end. is (Checking.blockOf (g .0) end)) (g .1 .1) in
-        let w : x ≡ Checking.blockOf (g .0) (u .0) = cc (u .1 .1) in
-        let v : x .used ≡ u .0 = ap (λ (y : checked.Block). y .used) w in
-        let h : headsOf t (at + groupLength) (groupAt s 0 .count) ≡ is (at + u .0) =
-        ap (λ (y : GroupRecord). headsOf t (at + groupLength) (y .count)) (sym (p .value)) ∙ units-there groupLength 0 _ _ _ (u .1 .0) in
-        rw (count-there, p .counted, v) h
+    unfolding blockEndOf need
+    block-there e =
+        let b = read day s long e in
+        rw (count-there, b .passed .counted, b .value) (units-there groupLength 0 _ _ _ (b .units))
 
 -- the front part of the rest of a day stands where the rest begins
 stand : (pre s post : List ℕ) → Stand (pre ++ (s ++ post)) (length pre) s

@@ -1,6 +1,6 @@
 -- What the checks pass is taken, and so is what our writers made, by a day that takes it next: its head comes by the table, and its fields are read.
 use Prim.Native.Nat.{ℕ, _≤_}
-use mathlib.Core.Path.{_≡_, refl, sym, ap, _∙_}
+use mathlib.Core.Path.{_≡_, refl, ap, _∙_}
 use mathlib.Core.Bool.{true}
 use mathlib.Core.List.{List}
 use native.Mathlib.Omega.{arith}
@@ -30,6 +30,7 @@ use Rattle.day.specs.declared.value.Day.{Day}
 use Rattle.blocks.specs.declared.check.Block.{Block}
 use Rattle.day.specs.Days.{opened, counted, closed, couldBeOpen, possible}
 use Rattle.blocks.specs.Checking.{blockOf}
+use Rattle.blocks.proofs.ByUnits.{units-pass}
 use Rattle.day.specs.Checking.{blockFieldsOf, blockHeadFor, checkOf}
 use Rattle.day.specs.Offers.{headFor, dayTaken, blockTaken, endTaken, offerOf}
 use Rattle.day.proofs.ByKind.{offer-day, offer-block, offer-end}
@@ -97,5 +98,5 @@ module _ {entry exit : List ℕ} {r : Answer} {n : ℕ} (done : answer r ≡ is 
   block-written brp zone quarter made c w day room p q joins aged h =
       let t = block-taken brp zone quarter made c done w (day .«record») (day .last) joins aged in
       let a = group-read exit (day .«record») (day .last) (t .0) in
-      let fields : blockFieldsOf day exit ≡ is (blockOf (groupOver brp zone quarter made c) n) = rw (a .fields, t .1) in
+      let fields : blockFieldsOf day exit ≡ is (blockOf (groupOver brp zone quarter made c) n) = rw (a .fields) (units-pass exit _ _ _ (t .1)) in
       block-fits day exit (rw p q) p room (a .head) fields h

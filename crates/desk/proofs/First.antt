@@ -59,7 +59,7 @@ pub short : (day : Day) (s : List ℕ) (room : ℕ) → Short (blockOfferOf day 
 short day s room step e =
     let k = alone-block day s room e in
     let t = taken-block day s room (sym (alone-offered day s k room) ∙ e) k in
-    let few = read day s (t .long) (t .fields) .few in
+    let few = read day s (t .long) (t .fields) .passed .most in
     rw (t .value) (omega arith)
 
 pub gives : (d : DayRecord) → permitted (d .quarters) ≡ true → (s : List ℕ) {entry exit : List ℕ} {o : Offered} {z : ℤ}

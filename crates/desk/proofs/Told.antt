@@ -1,47 +1,39 @@
 -- What the header says of the C call: each number in its reply is one of those listed, and an accepted call is the offer of the block to the day just opened, so that the demands on an offer carry over.
-use Prim.Native.Nat.{ℕ, zero, suc, _+_, _≤_, _<_}
-use mathlib.Core.Path.{_≡_, refl, sym, ap, _∙_}
+use Prim.Native.Nat.{ℕ, _+_, _≤_, _<_}
+use mathlib.Core.Path.{_≡_, refl, sym, _∙_}
 use mathlib.Core.Bool.{Bool, true, false, _||_, false≢true}
 use mathlib.Core.List.{List, [], _∷_, _++_, List·Memᴰ, List·Memᴰ·head, List·Memᴰ·tail}
 use native.Mathlib.Omega.{arith}
 use borrow.Author.Tests.{leb-true, eqb-true}
-use lib.Dec.{leb, ltb, eqb}
+use lib.Dec.{leb, eqb}
 use lib.IntN.{ℤ, pos, negℤ}
 use lib.ListN.{length, drop}
 use Rattle.numbers.specs.Bytes.{byteAt}
 use Rattle.numbers.proofs.Choices.{and-both}
 use Rattle.numbers.proofs.Integers.{zarith, neg}
-use Rattle.terms.specs.Reply.{Reply, is, refused, need, next}
-use Rattle.terms.specs.Refusals.{numberOf, whyOf, passed}
+use Rattle.terms.specs.Reply.{Reply, is, refused}
 use Rattle.terms.specs.Checks.{mostUnits}
-use Rattle.terms.specs.declared.refusal.Fault.{Fault}
-use Rattle.terms.specs.declared.refusal.Fault.the-variants as F
-use Rattle.terms.specs.declared.refusal.Checked.{Checked}
-use Rattle.terms.specs.declared.refusal.Checked.the-variants.{Fine, Faulty}
 use Rattle.terms.proofs.Replies.{next-is}
+use Rattle.terms.proofs.Numbers.{isOf, each, By, number, by-more, by-next}
 use Rattle.group.specs.Columns.{sumsOf}
 use Rattle.group.specs.Demand3.{Demand3}
 use Rattle.records.specs.declared.day.DayRecord.{DayRecord}
-use Rattle.records.specs.declared.key.Last.the-variants.{Nothing}
-use Rattle.records.specs.Layouts.{groupAt, groupResultAt, unitResultAt}
+use Rattle.records.specs.Layouts.{groupResultAt, unitResultAt}
 use Rattle.records.specs.Longest.{longestResult}
-use Rattle.records.specs.Reading.{permitted, headOf, dayFieldsOf, dayOf, groupFieldsOf, unitHeadOf, unitEnd, unitFieldsOf, unitOf, unitsOf}
-use Rattle.records.proofs.Read.{day-read, group-passed}
-use Rattle.records.proofs.Ages.{of-position}
+use Rattle.records.specs.Reading.{dayOf}
+use Rattle.records.proofs.Read.{day-read}
+use Rattle.records.proofs.Numbers.{headNumbers, dayNumbers, firstNumbers, unitNumbers, by-head, by-day, by-first, by-units}
 use Rattle.writers.specs.Results.{resultLength}
-use Rattle.walk.specs.declared.table.State.the-variants.{Open}
 use Rattle.walk.specs.declared.table.Role.the-variants.{Block}
-use Rattle.walk.specs.Table.{roleOf, headIn, blockHeadIn}
+use Rattle.walk.specs.Table.{roleOf}
 use Rattle.blocks.specs.Blocks.{groupResult, blockKey, blockCount, blockGroup, blockResult, unitResult}
-use Rattle.day.specs.declared.value.Day.{Day}
 use Rattle.day.specs.declared.offer.Step.{Step}
-use Rattle.day.specs.declared.offer.Offered.the-variants as O
 use Rattle.day.specs.Days.{opened}
-use Rattle.day.specs.Checking.{blockFieldsOf, blockHeadFor}
-use Rattle.day.specs.Offers.{blockTaken, offerOf, blockOfferOf, writtenOf, roomAfter, Offers}
+use Rattle.day.specs.Offers.{offerOf, blockOfferOf, roomAfter}
 use Rattle.day.proofs.Taking.{takes}
 use Rattle.day.proofs.Read.{read}
-use Rattle.day.proofs.Outcomes.{TakenBlock, taken-block}
+use Rattle.day.proofs.Numbers.{by-block-head, by-taken}
+use Rattle.day.proofs.Outcomes.{taken-block}
 use Rattle.day.proofs.BlockAlone.{alone-offered, alone-block}
 use Rattle.day.proofs.Demands.{result-bytes, group-told, unit-told, block-fair}
 use Rattle.desk.specs.Desk.{firstOf, callOf, given, Checks}
@@ -50,11 +42,6 @@ use Rattle.desk.specs.Header as H
 use Rattle.desk.proofs.First.{first-alone}
 
 -- ---- the numbers
--- whether a number is one of those listed, worked out for each number that a check has
-abbrev isOf : List ℕ → ℕ → Bool
-isOf [] n = false
-isOf (m ∷ rest) n = eqb n m || isOf rest n
-
 is-of : (l : List ℕ) (n : ℕ) → isOf l n ≡ true → List·Memᴰ n l
 is-of [] n e = absurd (false≢true e)
 is-of (m ∷ rest) n e = go (eqb n m) refl e (is-of rest n)
@@ -63,90 +50,18 @@ is-of (m ∷ rest) n e = go (eqb n m) refl e (is-of rest n)
     go true same k further = List·Memᴰ·head (eqb-true n m same)
     go false other k further = List·Memᴰ·tail (further k)
 
-abbrev early : ℕ → Bool
-early n = isOf callNumbers n
+by-alone : (d : DayRecord) (s : List ℕ) (room : ℕ) → By callNumbers (blockOfferOf (opened d) s room)
+unfolding blockOfferOf
+by-alone d s room =
+    by-next (by-more headNumbers callNumbers refl (by-block-head (opened d) s))
+    (λ _ _. by-taken (opened d) s callNumbers refl (by-more firstNumbers callNumbers refl (by-first s d)) (λ g _. by-more unitNumbers callNumbers refl (by-units s _ _ _ _ _)) room)
 
-above-zero : (n : ℕ) → early n ≡ true → 1 ≤ n
-above-zero zero e = absurd (false≢true e)
-above-zero (suc n) e = omega arith
-
-data Early {A : Type 0} : Reply A → Type 0 where
-  value : (a : A) → Early (is a)
-  number : (n p : ℕ) → early n ≡ true → Early (refused n p)
-
-early-need : {A : Type 0} {rest : Reply A} (t : Bool) (n p : ℕ) → early n ≡ true → Early rest → Early (need t n p rest)
-unfolding need
-early-need true n p e h = h
-early-need false n p e h = number n p e
-
--- a test that always passes gives no refusal
-early-true : {A : Type 0} {rest : Reply A} (n p : ℕ) → Early rest → Early (need true n p rest)
-unfolding need
-early-true n p h = h
-
-early-next : {A B : Type 0} {x : Reply A} {f : A → Reply B} → Early x → ((a : A) → Early (f a)) → Early (next x f)
-unfolding next
-early-next (value a) h = h a
-early-next (number n p e) h = number n p e
-
-early-fault : (fault : Fault) → early (numberOf (whyOf fault)) ≡ true
-early-fault F.Number = refl
-early-fault F.Class = refl
-early-fault F.Coincide = refl
-early-fault F.Nominated = refl
-early-fault F.NotNominated = refl
-early-fault F.N = refl
-early-fault F.Pc = refl
-early-fault F.StepDown = refl
-early-fault F.StepUp = refl
-early-fault F.Crossed = refl
-early-fault F.Ahead = refl
-early-fault F.Age = refl
-
-early-passed : {A : Type 0} {rest : Reply A} (place : Fault → ℕ) (checks : Checked) → Early rest → Early (passed place checks rest)
-unfolding passed
-early-passed place Fine h = h
-early-passed place (Faulty fault) h = number (numberOf (whyOf fault)) (place fault) (early-fault fault)
-
-module _ (s : List ℕ) where
-  early-head : (at kind len : ℕ) → Early (headOf s at kind len)
-  unfolding headOf
-  early-head at kind len = early-need _ 1 _ refl (early-need _ 2 _ refl (early-need _ 1 _ refl (value _)))
-
-  early-day : Early (dayOf s)
-  unfolding dayOf dayFieldsOf
-  early-day = early-next (early-head 0 _ _) (λ _. early-need _ 3 _ refl (value _))
-
-  early-units : (at floor run limit left : ℕ) → Early (unitsOf s at floor run limit left)
-  unfolding unitsOf unitOf unitFieldsOf
-  early-units at floor run limit zero = value at
-  early-units at floor run limit (suc left) =
-      early-next (early-next (early-head at _ _) (λ _. early-passed _ _ (value _))) (λ u. early-units (unitEnd s at) (u .number + 1) run limit left)
-
-  module _ (d : DayRecord) where
-    -- the first block of a day comes after none
-    early-group : Early (groupFieldsOf s d Nothing)
-    unfolding groupFieldsOf
-    early-group = early-need _ 4 _ refl (early-need _ 5 _ refl (early-true 13 _ (early-need _ _ _ (of-position (λ n. early n ≡ true) refl refl (d .run) (groupAt s 0 .made)) (value _))))
-
-    early-block : (room : ℕ) → Early (blockTaken (opened d) s room)
-    unfolding blockTaken blockFieldsOf
-    early-block room = early-next (early-next early-group (λ g. early-next (early-units _ _ _ _ _) (λ end. value _))) (λ b. early-need _ 12 _ refl (value _))
-
-    early-alone : (room : ℕ) → Early (blockOfferOf (opened d) s room)
-    unfolding blockOfferOf blockHeadFor blockHeadIn headIn
-    early-alone room =
-        early-next
-        (early-need _ 1 _ refl (early-need _ 2 _ refl (early-need _ 1 _ refl (early-need _ 2 _ refl (early-need _ 1 _ refl (early-need _ 2 _ refl (early-need _ 1 _ refl (value _))))))))
-        (λ _. early-block room)
-
-early-call : (day s : List ℕ) (room : ℕ) → Early (callOf day s room)
-unfolding callOf next
-early-call day s room = go (dayOf day) refl (early-day day)
-  where
-    go : (x : Reply DayRecord) → dayOf day ≡ x → Early x → Early (next x λ d. firstOf d s room)
-    go (is d) e h = rw (first-alone d (day-read day e .quarters) s room) (early-alone s d room)
-    go (refused n p) e (number m q k) = number m q k
+by-call : (day s : List ℕ) (room : ℕ) → By callNumbers (callOf day s room)
+unfolding callOf dayOf
+by-call day s room =
+    by-next
+    (by-next (by-more headNumbers callNumbers refl (by-head day 0 _ _)) (λ _ _. by-more dayNumbers callNumbers refl (by-day day)))
+    (λ d e. rw (first-alone d (day-read day e .quarters) s room) (by-alone d s room))
 
 -- ---- an accepted call
 module _ (day s : List ℕ) (room : ℕ) {step : Step} (e : callOf day s room ≡ is step) where
@@ -164,21 +79,20 @@ module _ (day s : List ℕ) (room : ℕ) {step : Step} (e : callOf day s room �
   offered = sym (alone-offered (opened (parts .0)) s block-is room) ∙ parts .1 .1
 
   written-in : (resultLength 1 ≤ step .written) × (step .written ≤ longestResult)
-  unfolding blockFieldsOf
   written-in =
       let d = parts .0 in
       let t = taken-block (opened d) s room offered block-is in
-      let few = read (opened d) s (t .long) (t .fields) .few in
-      let g = group-passed s d Nothing (next-is (groupFieldsOf s d Nothing) _ (t .fields) .1 .0) in
+      let g = read (opened d) s (t .long) (t .fields) .passed in
+      let few = g .most in
       let some = leb-true 1 (blockCount s) (and-both (leb 1 (blockCount s)) (leb (blockCount s) mostUnits) (g .counted) .0) in
       rw (t .value) (omega arith, omega arith)
 
 -- The reply is a length, from that of one unit's result to the longest, or minus one of the numbers listed, never 0.
 pub reply-in : (day block entry : List ℕ) {z : ℤ} {exit : List ℕ} → Checks day block entry z exit → Replied z
 unfolding given
-reply-in day block entry c = rw (c .replied) (go (callOf day block (length entry)) refl (early-call day block (length entry)))
+reply-in day block entry c = rw (c .replied) (go (callOf day block (length entry)) refl (by-call day block (length entry)))
   where
-    go : (x : Reply Step) → callOf day block (length entry) ≡ x → Early x → Replied (given x)
+    go : (x : Reply Step) → callOf day block (length entry) ≡ x → By callNumbers x → Replied (given x)
     go (is step) e h =
         let w = written-in day block (length entry) e in
         H.length (step .written) (w .0) (w .1)
@@ -187,9 +101,9 @@ reply-in day block entry c = rw (c .replied) (go (callOf day block (length entry
 -- An accepted call is the offer of the block to the day just opened, taken.
 pub call-taken : (day block entry : List ℕ) (n : ℕ) {exit : List ℕ} → Checks day block entry (pos n) exit → CallTaken day block entry n exit
 unfolding given roomAfter
-call-taken day block entry n {exit} c = go (callOf day block (length entry)) refl (early-call day block (length entry)) (c .replied) (c .room)
+call-taken day block entry n {exit} c = go (callOf day block (length entry)) refl (by-call day block (length entry)) (c .replied) (c .room)
   where
-    go : (x : Reply Step) → callOf day block (length entry) ≡ x → Early x → pos n ≡ given x → exit ≡ roomAfter x (blockResult block) entry → CallTaken day block entry n exit
+    go : (x : Reply Step) → callOf day block (length entry) ≡ x → By callNumbers x → pos n ≡ given x → exit ≡ roomAfter x (blockResult block) entry → CallTaken day block entry n exit
     go (is step) e h w r =
         let k = block-is day block (length entry) e in
         let o = offered day block (length entry) e in
@@ -203,7 +117,7 @@ call-taken day block entry n {exit} c = go (callOf day block (length entry)) ref
           told = omega zarith;
         }
     go (refused n′ p′) e (number m p k) w r =
-        let b = above-zero m k in
+        let b = leb-true 1 m (each (leb 1) callNumbers m refl k) in
         absurd (omega (zarith, neg (pos m)))
 
 -- A refused call leaves the room as it was.

@@ -1,7 +1,7 @@
 -- The first of some units that does not pass: those before it do, and the refusal is its own. By induction over the units, each read from where the one before ends.
-use Prim.Native.Nat.{ℕ, zero, suc, _+_, _≤_, _<_}
+use Prim.Native.Nat.{ℕ, zero, suc, _+_, _<_}
 use mathlib.Core.Path.{_≡_, refl, sym, ap, _∙_}
-use mathlib.Core.Bool.{Bool, true, false}
+use mathlib.Core.Bool.{true}
 use mathlib.Core.List.{List}
 use native.Mathlib.Omega.{arith}
 use Rattle.terms.specs.Reply.{Reply, is, refused, next}
@@ -10,12 +10,13 @@ use Rattle.terms.specs.declared.refusal.Fault.{Fault}
 use Rattle.terms.specs.declared.refusal.Checked.{Checked}
 use Rattle.terms.specs.declared.refusal.Checked.the-variants.{Fine, Faulty}
 use Rattle.terms.proofs.Replies.{never}
+use Rattle.terms.proofs.Numbers.{isOf, by-each}
 use Rattle.records.specs.declared.unit.UnitRecord.{UnitRecord}
 use Rattle.records.specs.Layouts.{unitAt}
 use Rattle.records.specs.Reading.{unitHeadOf, unitEnd, placeFrom, faultPlace, unitFaults, unitFieldsOf, unitOf, unitsOf}
-use Rattle.records.proofs.UnitHeads.{unit-head-no}
 use Rattle.records.proofs.Turns.{place-inside}
 use Rattle.records.proofs.Places.{place-later}
+use Rattle.records.proofs.Numbers.{headNumbers, by-head}
 
 -- a refusal came of the reading in front, or of what comes after it
 pub data From {A B : Type 0} (x : Reply A) (rest : A → Reply B) (n p : ℕ) : Type 0 where
@@ -34,8 +35,8 @@ pub either : {A B P : Type 0} {x : Reply A} {rest : A → Reply B} {n p : ℕ} �
 either (front h) f g = f h
 either (after a h k) f g = g a h k
 
--- a refusal of a unit's field: neither 1 nor 2
-module _ (n p : ℕ) (high : 3 ≤ n) where
+-- a refusal of a unit's field: no head has its number
+module _ (n p : ℕ) (other : isOf headNumbers n ≡ true → ⊥) where
   pub record Faulted (s : List ℕ) (at floor run limit : ℕ) : Type 0 where
     pub fault : Fault
     pub end : ℕ
@@ -58,7 +59,7 @@ module _ (n p : ℕ) (high : 3 ≤ n) where
   unit-no s at floor run limit e = go (next-from (unitHeadOf s at) (λ _. unitFieldsOf s at floor run limit) e)
     where
       go : From (unitHeadOf s at) (λ _. unitFieldsOf s at floor run limit) n p → Faulted s at floor run limit
-      go (front h) = absurd (unit-head-no s at high h)
+      go (front h) = absurd (other (by-each (isOf headNumbers) headNumbers refl (by-head s at _ _) h))
       go (after end h f) = checks-no s at floor run limit end h (unitFaults (unitAt s at) floor run limit) refl f
 
   -- the first that fails, of units that are not all accepted

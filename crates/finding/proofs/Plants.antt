@@ -1,37 +1,37 @@
 -- A refusal of a unit's field names the first unit that does not pass: the offer's checks lead to its units, and the walk over them to its record.
 use Prim.Native.Nat.{ℕ, zero, suc, _+_, _-_, _≤_, _<_}
 use mathlib.Core.Path.{_≡_, refl, sym, ap, _∙_}
-use mathlib.Core.Bool.{Bool, true, false, _||_, false≢true}
-use mathlib.Core.List.{List}
+use mathlib.Core.Bool.{Bool, true, false, not, false≢true}
+use mathlib.Core.List.{List, [], _∷_}
 use native.Mathlib.Omega.{arith}
 use borrow.Author.Tests.{lt-ltb, le-ltb, le-leb}
 use lib.Dec.{eqb}
 use lib.ListN.{length}
 use Rattle.numbers.specs.Bytes.{byteAt}
 use Rattle.numbers.specs.Choice.{pick}
-use Rattle.terms.specs.Reply.{Reply, is, refused, next}
+use Rattle.terms.specs.Reply.{Reply, is, refused}
 use Rattle.terms.specs.Refusals.{numberOf, whyOf, refusal}
-use Rattle.terms.specs.declared.refusal.Why.{Why}
-use Rattle.terms.specs.declared.refusal.Why.the-variants as W
 use Rattle.terms.specs.declared.refusal.Fault.{Fault}
 use Rattle.terms.specs.declared.refusal.Fault.the-variants as A
 use Rattle.terms.specs.declared.refusal.Refusal.{Refusal}
-use Rattle.terms.proofs.Replies.{never, need-is, need-past}
-use Rattle.terms.proofs.Same.{why-same}
-use Rattle.records.specs.declared.group.GroupRecord.{GroupRecord}
+use Rattle.terms.proofs.Same.{whyBy, why-back, why-same}
+use Rattle.terms.proofs.Numbers.{isOf, allOf, By, value, number, by-each, by-need}
 use Rattle.records.specs.Layouts as L
-use Rattle.records.specs.Reading.{unitEnd, placeFrom, unitPlace, unitIn, unitHeadOf, faultPlace, groupFieldsOf, dayFieldsOf, endFieldsOf, unitsOf}
+use Rattle.records.specs.Reading.{unitEnd, placeFrom, unitPlace, unitIn, unitHeadOf, faultPlace, groupFieldsOf, unitsOf}
 use Rattle.records.proofs.UnitHeads.{length-least, read-kind, read-long}
-use Rattle.records.proofs.Ages.{of-position}
+use Rattle.records.proofs.Numbers.{headNumbers, dayNumbers, groupNumbers, endNumbers, by-group}
+use Rattle.records.proofs.Read.{group-passed}
 use Rattle.records.proofs.Places.{place-later, place-from}
 use Rattle.walk.specs.declared.table.Role.{Role}
 use Rattle.walk.specs.declared.table.Role.the-variants.{Opens, Block, Closes}
 use Rattle.walk.specs.declared.table.Head.{Head}
-use Rattle.walk.specs.Table.{comes, none, roleOr, roleOf, isBlock, headIn}
+use Rattle.walk.specs.Table.{comes, none, roleOr, roleOf, isBlock}
+use Rattle.blocks.proofs.ByUnits.{afterUnits, unmade}
 use Rattle.day.specs.declared.value.Day.{Day}
 use Rattle.day.specs.Checking.{blockFieldsOf}
-use Rattle.day.specs.Offers.{headFor, dayTaken, blockTaken, endTaken, taken, offerOf}
+use Rattle.day.specs.Offers.{headFor, blockTaken, taken, offerOf}
 use Rattle.day.proofs.ByKind.{head-came, group-long}
+use Rattle.day.proofs.Numbers.{by-head-for, by-opens, by-closes}
 use Rattle.finding.specs.declared.spot.Spot.the-variants.{Unit}
 use Rattle.finding.specs.declared.named.Field.the-variants as F
 use Rattle.finding.specs.declared.named.Subject.the-variants as S
@@ -103,37 +103,6 @@ number-at-hand s at h =
     let long : at + L.unitClass .place ≤ length s = omega (arith, read-long s at h, length-least (L.unitAt s at)) in
     rw (le-leb _ _ long, read-kind s at h)
 
--- ---- numbers of a unit's field are those of no other check
-abbrev others : ℕ → Bool
-others n = eqb n 10 || (eqb n 12 || (eqb n 13 || (eqb n 14 || eqb n 17)))
-
-record Own (n : ℕ) : Type 0 where
-  low : 6 ≤ n
-  apart : others n ≡ false
-
--- so it is none of those
-apart-from : (n m : ℕ) → others m ≡ true → Own n → n ≡ m → ⊥
-apart-from n m e o z = false≢true (sym (o .apart) ∙ ap others z ∙ e)
-
-own : (w : Why) → ofUnit w ≡ true → Own (numberOf w)
-own W.CutShort e = absurd (false≢true e)
-own W.Kind e = absurd (false≢true e)
-own W.Quarters e = absurd (false≢true e)
-own W.Quarter e = absurd (false≢true e)
-own W.UnitCount e = absurd (false≢true e)
-own W.UnitNumber e = record { low = omega arith; apart = refl }
-own W.Flag e = record { low = omega arith; apart = refl }
-own W.Range e = record { low = omega arith; apart = refl }
-own W.Crossed e = record { low = omega arith; apart = refl }
-own W.PositionAge e = absurd (false≢true e)
-own W.MarginAge e = record { low = omega arith; apart = refl }
-own W.Room e = absurd (false≢true e)
-own W.BlockOrder e = absurd (false≢true e)
-own W.EndCount e = absurd (false≢true e)
-own W.Columns e = absurd (false≢true e)
-own W.PositionAhead e = absurd (false≢true e)
-own W.MarginAhead e = record { low = omega arith; apart = refl }
-
 no-block : {P : Type 0} (role : Role) → isBlock role ≡ false → role ≡ Block → P
 no-block role e k =
     let z : isBlock role ≡ isBlock Block = ap isBlock k in
@@ -150,66 +119,27 @@ block-kind kind k = go (eqb kind L.dayKind) (eqb kind L.groupKind) (eqb kind L.e
     go false false false e = no-block Closes refl e
 
 -- ---- from the offer to the block's units
--- what is told of a reading refuses nothing of its own
-told-of : {A B : Type 0} (x : Reply A) (f : A → B) {n p : ℕ} → next x (λ a. is (f a)) ≡ refused n p → x ≡ refused n p
-unfolding next
-told-of (is a) f e = never (sym e)
-told-of (refused m q) f {n} {p} e =
-    let z : m ≡ n = cc in
-    let y : q ≡ p = cc in
-    rw (z, y)
+module _ (day : Day) (s : List ℕ) (n p : ℕ) (own : ofUnit (whyBy n) ≡ true) where
+  -- a number of a unit's field is that of no other check
+  no : {A : Type 0} {x : Reply A} (l : List ℕ) → allOf (λ m. not (ofUnit (whyBy m))) l ≡ true → By l x → x ≡ refused n p → ⊥
+  no l e b h = false≢true (sym (ap not own) ∙ by-each (λ m. not (ofUnit (whyBy m))) l e b h)
 
-module _ (day : Day) (s : List ℕ) (n p : ℕ) (o : Own n) where
-  head-first : headFor day s ≡ refused n p → ⊥
-  unfolding headFor headIn
-  head-first e =
-      let a = need-past _ 1 _ _ e (λ z. omega (arith, o .low)) in
-      let b = need-past _ 2 _ _ a (λ z. omega (arith, o .low)) in
-      let c = need-past _ 1 _ _ b (λ z. omega (arith, o .low)) in
-      let d = need-past _ 2 _ _ c (λ z. omega (arith, o .low)) in
-      never (sym (need-past _ 1 _ _ d (λ z. omega (arith, o .low))))
-
-  day-first : (end : ℕ) → dayTaken s end ≡ refused n p → ⊥
-  unfolding dayTaken dayFieldsOf
-  day-first end e =
-      either (next-from (dayFieldsOf s) _ e) (λ h. never (sym (need-past _ 3 _ _ h (λ z. omega (arith, o .low))))) (λ d h f. never (sym f))
-
-  end-first : (end : ℕ) → endTaken day s end ≡ refused n p → ⊥
-  unfolding endTaken endFieldsOf
-  end-first end e =
-      either (next-from (endFieldsOf s (day .groups)) _ e) (λ h. never (sym (need-past _ 14 _ _ h (apart-from n 14 refl o)))) (λ d h f. never (sym f))
+  not-of : (l : List ℕ) → allOf (λ m. not (ofUnit (whyBy m))) l ≡ true → isOf l n ≡ true → ⊥
+  not-of l e k = no {A = ℕ} l e (number n p k) refl
 
   abbrev units : Reply ℕ
   units = unitsOf s L.groupLength 0 (day .«record» .run) (day .«record» .«margin_limit») (L.groupAt s 0 .count)
 
-  -- the group's own checks have other numbers, and then come the units
-  group-first : groupFieldsOf s (day .«record») (day .last) ≡ refused n p → ⊥
-  unfolding groupFieldsOf
-  group-first h =
-      let a = need-past _ 4 _ _ h (λ z. omega (arith, o .low)) in
-      let b = need-past _ 5 _ _ a (λ z. omega (arith, o .low)) in
-      let c = need-past _ 13 _ _ b (apart-from n 13 refl o) in
-      never (sym (need-past _ _ _ _ c (of-position (λ m. n ≡ m → ⊥) (apart-from n 17 refl o) (apart-from n 10 refl o) (day .«record» .run) (L.groupAt s 0 .made))))
-
-  group-read : {g : GroupRecord} → groupFieldsOf s (day .«record») (day .last) ≡ is g → g ≡ L.groupAt s 0
-  unfolding groupFieldsOf
-  group-read h =
-      let a = need-is _ _ _ _ h in
-      let b = need-is _ _ _ _ (a .1) in
-      let c = need-is _ _ _ _ (b .1) in
-      let d = need-is _ _ _ _ (c .1) in
-      cc (d .1)
-
   fields-first : blockFieldsOf day s ≡ refused n p → units ≡ refused n p
   unfolding blockFieldsOf
   fields-first e =
-      either (next-from (groupFieldsOf s (day .«record») (day .last)) _ e) (λ h. absurd (group-first h))
-      (λ g h f. told-of units _ (rw (group-read h) at f))
+      either (next-from (groupFieldsOf s (day .«record») (day .last)) _ e) (λ h. absurd (no groupNumbers refl (by-group s _ _) h))
+      (λ g h f. unmade s (L.groupAt s 0) _ _ (not-of afterUnits refl) (rw (group-passed s (day .«record») (day .last) h .value) at f))
 
   block-first : (room : ℕ) → blockTaken day s room ≡ refused n p → units ≡ refused n p
   unfolding blockTaken
   block-first room e =
-      either (next-from (blockFieldsOf day s) _ e) (λ h. fields-first h) (λ b h f. never (sym (need-past _ 12 _ _ f (apart-from n 12 refl o))))
+      either (next-from (blockFieldsOf day s) _ e) (λ h. fields-first h) (λ b h f. absurd (no (12 ∷ []) refl (by-need _ 12 _ refl (value _)) f))
 
   -- the block lies whole in front as far as its group record goes, and its units are refused
   record Reached : Type 0 where
@@ -217,16 +147,16 @@ module _ (day : Day) (s : List ℕ) (n p : ℕ) (o : Own n) where
     refusing : units ≡ refused n p
 
   by-role : (room : ℕ) (head : Head) → headFor day s ≡ is head → (role : Role) → head .role ≡ role → taken day s room role (head .end) ≡ refused n p → Reached
-  by-role room head h Opens k f = absurd (day-first (head .end) f)
+  by-role room head h Opens k f = absurd (no dayNumbers refl (by-opens day s (head .end)) f)
   by-role room head h Block k f =
       let long = le-leb L.groupLength (length s) (group-long day s head h k) in
       let kind = block-kind (byteAt s 0) (head-came day s head h .first ∙ k) in
       record { whole = rw (long, kind); refusing = block-first room f }
-  by-role room head h Closes k f = absurd (end-first (head .end) f)
+  by-role room head h Closes k f = absurd (no endNumbers refl (by-closes day s (head .end)) f)
 
   reached : (room : ℕ) → offerOf day s room ≡ refused n p → Reached
   unfolding offerOf
-  reached room e = either (next-from (headFor day s) _ e) (λ h. absurd (head-first h)) (λ head h f. by-role room head h (head .role) refl f)
+  reached room e = either (next-from (headFor day s) _ e) (λ h. absurd (no headNumbers refl (by-head-for day s) h)) (λ head h f. by-role room head h (head .role) refl f)
 
 -- ---- the theorem
 module _ (day : Day) (s : List ℕ) (r : Refusal) where
@@ -259,8 +189,8 @@ module _ (day : Day) (s : List ℕ) (r : Refusal) where
       let e = row day s (unitPlace s i) (unitPlace s (i - 1)) fault (r .place) (omega (arith, place)) in
       rw (spot, why, e, hand)
 
-  by-first : (high : 3 ≤ numberOf (r .why)) → groupWhole s ≡ true → First (numberOf (r .why)) (r .place) high s L.groupLength 0 run limit (L.groupAt s 0 .count) → Plant day s r
-  by-first above whole f =
+  by-first : (other : isOf headNumbers (numberOf (r .why)) ≡ true → ⊥) → groupWhole s ≡ true → First (numberOf (r .why)) (r .place) other s L.groupLength 0 run limit (L.groupAt s 0 .count) → Plant day s r
+  by-first other whole f =
       let i = f .index in
       let at = unitPlace s i in
       let fault = f .fault in
@@ -283,7 +213,7 @@ module _ (day : Day) (s : List ℕ) (r : Refusal) where
 
   pub plant-named : (room : ℕ) → offerOf day s room ≡ refusal r → ofUnit (r .why) ≡ true → Plant day s r
   plant-named room e u =
-      let o = own (r .why) u in
-      let f = reached day s (numberOf (r .why)) (r .place) o room e in
-      let above : 3 ≤ numberOf (r .why) = omega (arith, o .low) in
-      by-first above (f .whole) (first (numberOf (r .why)) (r .place) above s L.groupLength 0 run limit (L.groupAt s 0 .count) (f .refusing))
+      let own = ap ofUnit (why-back (r .why)) ∙ u in
+      let f = reached day s (numberOf (r .why)) (r .place) own room e in
+      let other = not-of day s (numberOf (r .why)) (r .place) own headNumbers refl in
+      by-first other (f .whole) (first (numberOf (r .why)) (r .place) other s L.groupLength 0 run limit (L.groupAt s 0 .count) (f .refusing))

@@ -1,8 +1,8 @@
 -- Late or early: what is not aged was made after the run or is stale, never both, and its number tells which.
 use Prim.Native.Nat.{ℕ, _-_, _≤_, _<_}
 use mathlib.Core.Path.{_≡_, refl, sym, _∙_}
-use mathlib.Core.Bool.{Bool, true, false, not}
-use mathlib.Core.List.{List}
+use mathlib.Core.Bool.{Bool, true, false, not, false≢true}
+use mathlib.Core.List.{List, [], _∷_}
 use native.Mathlib.Omega.{arith}
 use borrow.Author.Tests.{ltb-true, ltb-false, leb-false, lt-leb, le-leb}
 use Rattle.numbers.specs.Choice.{pick}
@@ -15,6 +15,7 @@ use Rattle.terms.specs.declared.refusal.Fault.the-variants as F
 use Rattle.terms.specs.declared.refusal.Checked.{Checked}
 use Rattle.terms.specs.declared.refusal.Checked.the-variants.{Fine, Faulty}
 use Rattle.terms.proofs.Replies.{never, need-past}
+use Rattle.terms.proofs.Numbers.{isOf}
 use Rattle.records.specs.declared.day.DayRecord.{DayRecord}
 use Rattle.records.specs.declared.unit.UnitRecord.{UnitRecord}
 use Rattle.records.specs.declared.key.Last.{Last}
@@ -95,16 +96,19 @@ module _ (s : List ℕ) (day : DayRecord) (last : Last) {p : ℕ} where
       ltb-true _ _ (is-ahead _ (h .1))
 
 -- ---- what a fault of margins, 11 or 18, tells
--- every fault of these checks has a number up to 9
-abbrev Early : Checked → Type 0
-Early c = (fault : Fault) → c ≡ Faulty fault → numberOf (whyOf fault) ≤ 9
+abbrev ofAge : Fault → Bool
+ofAge fault = isOf (11 ∷ 18 ∷ []) (numberOf (whyOf fault))
 
-early-check : (t : Bool) (fault : Fault) (rest : Checked) → numberOf (whyOf fault) ≤ 9 → Early rest → Early (check t fault rest)
+-- no fault of these checks is one of age
+abbrev Early : Checked → Type 0
+Early c = (fault : Fault) → c ≡ Faulty fault → ofAge fault ≡ false
+
+early-check : (t : Bool) (fault : Fault) (rest : Checked) → ofAge fault ≡ false → Early rest → Early (check t fault rest)
 unfolding check
-early-check true fault rest low h other e = h other e
-early-check false fault rest low h other e =
-    let z : fault ≡ other = cc in
-    rw z at low
+early-check true fault rest other h another e = h another e
+early-check false fault rest other h another e =
+    let z : fault ≡ another = cc in
+    rw z at other
 
 early-also : (c rest : Checked) → Early c → Early rest → Early (also c rest)
 unfolding also
@@ -121,29 +125,28 @@ module _ (u : UnitRecord) (floor run limit : ℕ) where
   unfolding valueFaults markFaults amountChecks marginChecks
   values-early =
       early-also _ _
-      (early-check _ F.Number _ (omega arith) (early-check _ F.Class _ (omega arith) (early-check _ F.Coincide _ (omega arith)
-      (early-check _ F.Nominated _ (omega arith) (early-check _ F.NotNominated _ (omega arith) early-fine)))))
-      (early-check _ F.N _ (omega arith) (early-check _ F.Pc _ (omega arith) (early-check _ F.StepDown _ (omega arith)
-      (early-check _ F.StepUp _ (omega arith) (early-check _ F.Crossed _ (omega arith) early-fine)))))
+      (early-check _ F.Number _ refl (early-check _ F.Class _ refl (early-check _ F.Coincide _ refl
+      (early-check _ F.Nominated _ refl (early-check _ F.NotNominated _ refl early-fine)))))
+      (early-check _ F.N _ refl (early-check _ F.Pc _ refl (early-check _ F.StepDown _ refl
+      (early-check _ F.StepUp _ refl (early-check _ F.Crossed _ refl early-fine)))))
 
-  -- a fault of a higher number is the age's
-  by-margins : (fault : Fault) → 9 < numberOf (whyOf fault) → unitFaults u floor run limit ≡ Faulty fault
+  by-margins : (fault : Fault) → ofAge fault ≡ true → unitFaults u floor run limit ≡ Faulty fault
       → (aged run (u .made) limit ≡ false) × (marginFault run (u .made) ≡ fault)
   unfolding unitFaults also check
-  by-margins fault high = go (valueFaults u floor) values-early
+  by-margins fault late = go (valueFaults u floor) values-early
     where
       tested : (t : Bool) → check t (marginFault run (u .made)) Fine ≡ Faulty fault → (t ≡ false) × (marginFault run (u .made) ≡ fault)
-      tested true e = absurd (omega (arith, early-fine fault e))
+      tested true e = absurd (false≢true (sym (early-fine fault e) ∙ late))
       tested false e = (refl, cc)
 
       go : (c : Checked) → Early c → also c (check (aged run (u .made) limit) (marginFault run (u .made)) Fine) ≡ Faulty fault
           → (aged run (u .made) limit ≡ false) × (marginFault run (u .made) ≡ fault)
       go Fine h e = tested _ e
-      go (Faulty other) h e = absurd (omega (arith, h fault e))
+      go (Faulty other) h e = absurd (false≢true (sym (h fault e) ∙ late))
 
   pub margins-stale : unitFaults u floor run limit ≡ Faulty F.Age → (u .made ≤ run) × (limit < run - u .made)
   margins-stale e =
-      let h = by-margins F.Age (omega arith) e in
+      let h = by-margins F.Age refl e in
       stale run (u .made) limit (go (madeAfter run (u .made)) (h .1)) (h .0)
     where
       go : (t : Bool) → pick t F.Ahead F.Age ≡ F.Age → t ≡ false
@@ -151,7 +154,7 @@ module _ (u : UnitRecord) (floor run limit : ℕ) where
       go false e = refl
 
   pub margins-ahead : unitFaults u floor run limit ≡ Faulty F.Ahead → run < u .made
-  margins-ahead e = ltb-true run (u .made) (go (madeAfter run (u .made)) (by-margins F.Ahead (omega arith) e .1))
+  margins-ahead e = ltb-true run (u .made) (go (madeAfter run (u .made)) (by-margins F.Ahead refl e .1))
     where
       go : (t : Bool) → pick t F.Ahead F.Age ≡ F.Ahead → t ≡ true
       go true e = refl

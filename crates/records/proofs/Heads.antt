@@ -1,4 +1,4 @@
--- A record whose head was read has its kind, and lies whole in the bytes: each test of the head passed; one that is refused is cut short or of another kind.
+-- A record whose head was read has its kind, and lies whole in the bytes: each test of the head passed; none is cut short where its bytes are there.
 use Prim.Native.Nat.{ℕ, _+_, _≤_, _<_}
 use mathlib.Core.Path.{_≡_, refl, sym}
 use mathlib.Core.Bool.{Bool, true, false, _&&_}
@@ -58,15 +58,7 @@ module _ (s : List ℕ) (at kind len : ℕ) where
       let z : _≡_ {A = ℕ} 0 1 = cc in
       omega arith
 
--- a head is refused by 1 or 2 alone
-pub head-no : (s : List ℕ) (at kind len : ℕ) {n p : ℕ} → 3 ≤ n → headOf s at kind len ≡ refused n p → ⊥
-unfolding headOf
-head-no s at kind len high e =
-    let a = need-past _ 1 _ _ e (λ z. omega arith) in
-    let b = need-past _ 2 _ _ a (λ z. omega arith) in
-    never (sym (need-past _ 1 _ _ b (λ z. omega arith)))
-
--- it is not cut short where its length is there
+-- a head is not cut short where its length is there
 pub head-there : (s : List ℕ) (at kind len : ℕ) → 0 < len → at + len ≤ length s → (p : ℕ) → headOf s at kind len ≡ refused 1 p → ⊥
 unfolding headOf need
 head-there s at kind len pos long p e =

@@ -11,4 +11,4 @@ pub mod Read
 pub mod Ages
 pub mod Places
 pub mod Alike
-pub mod Sayable
+pub mod Numbers

@@ -13,7 +13,7 @@ use Rattle.records.specs.declared.unit.UnitRecord.{UnitRecord}
 use Rattle.records.specs.Layouts.{unitKind, isUnit, unitLength, unitAt, lengthOf, longestUnit}
 use Rattle.records.specs.Reading.{headOf, unitHeadOf, unitEnd, unitOf}
 use Rattle.records.specs.Inner.{isWhole}
-use Rattle.records.proofs.Heads.{headed, head-end, whole-head, whole-headed, head-no, head-there, head-longer}
+use Rattle.records.proofs.Heads.{headed, head-end, whole-head, whole-headed, head-there, head-longer}
 
 -- a unit has bytes, no less than the shortest and no more than the longest
 pub length-some : (u : UnitRecord) → 0 < lengthOf u
@@ -39,10 +39,7 @@ module _ (s : List ℕ) (at : ℕ) where
   pub whole-long : isWhole s at ≡ true → unitEnd s at ≤ length s
   whole-long w = whole-headed s at unitKind unitLength w .long
 
-  -- its head is refused by 1 or 2 alone, and by 1 only where the longest would not fit
-  pub unit-head-no : {n p : ℕ} → 3 ≤ n → unitHeadOf s at ≡ refused n p → ⊥
-  unit-head-no = head-no s at unitKind unitLength
-
+  -- its head is refused by 1 only where the longest would not fit
   pub unit-there : at + longestUnit ≤ length s → (p : ℕ) → unitHeadOf s at ≡ refused 1 p → ⊥
   unit-there = head-there s at unitKind unitLength (omega arith)
 

@@ -4,4 +4,5 @@ pub mod Passing
 pub mod FirstRefused
 pub mod Scan
 pub mod Same
+pub mod Numbers
 pub mod Considered

@@ -12,7 +12,7 @@ use Rattle.terms.specs.declared.refusal.Answer.{Answer}
 use Rattle.terms.specs.declared.refusal.Answer.the-variants as A
 
 -- the reasons by their numbers; there is no number 0 and no 16
-whys : List Why
+abbrev whys : List Why
 whys =
     W.CutShort
     ∷ W.CutShort
@@ -35,31 +35,30 @@ whys =
     ∷ W.MarginAhead
     ∷ []
 
-whyBy : ℕ → Why
+abbrev pub whyBy : ℕ → Why
 whyBy k = getD whys k W.CutShort
 
-back : (w : Why) → whyBy (numberOf w) ≡ w
-unfolding whyBy whys
-back W.CutShort = refl
-back W.Kind = refl
-back W.Quarters = refl
-back W.Quarter = refl
-back W.UnitCount = refl
-back W.UnitNumber = refl
-back W.Flag = refl
-back W.Range = refl
-back W.Crossed = refl
-back W.PositionAge = refl
-back W.MarginAge = refl
-back W.Room = refl
-back W.BlockOrder = refl
-back W.EndCount = refl
-back W.Columns = refl
-back W.PositionAhead = refl
-back W.MarginAhead = refl
+pub why-back : (w : Why) → whyBy (numberOf w) ≡ w
+why-back W.CutShort = refl
+why-back W.Kind = refl
+why-back W.Quarters = refl
+why-back W.Quarter = refl
+why-back W.UnitCount = refl
+why-back W.UnitNumber = refl
+why-back W.Flag = refl
+why-back W.Range = refl
+why-back W.Crossed = refl
+why-back W.PositionAge = refl
+why-back W.MarginAge = refl
+why-back W.Room = refl
+why-back W.BlockOrder = refl
+why-back W.EndCount = refl
+why-back W.Columns = refl
+why-back W.PositionAhead = refl
+why-back W.MarginAhead = refl
 
 pub why-same : (v w : Why) → numberOf v ≡ numberOf w → v ≡ w
-why-same v w e = sym (back v) ∙ ap whyBy e ∙ back w
+why-same v w e = sym (why-back v) ∙ ap whyBy e ∙ why-back w
 
 pub refusal-same : {A : Type 0} (r q : Refusal) → _≡_ {A = Reply A} (refusal r) (refusal q) → r ≡ q
 refusal-same r q e =
