@@ -21,7 +21,7 @@ extern "C" {
 #endif
 
 /* The version of this header and of the library it came with. */
-#define FLEHWELLA_VERSION "0.2.0"
+#define FLEHWELLA_VERSION "0.3.0"
 
 /* Lengths in bytes of what goes in: a day record; a group record and its unit records, which together are a block. */
 #define FLEHWELLA_DAY_LENGTH 12
@@ -115,8 +115,8 @@ enum flehwella_refusal {
  *   unit result    0 kind 12h; 1 number u16; 3 reason u8; 4 n0, 8 n1, 12 n2, 16 n3 (i32 each)
  *
  *   verdict        0 no cut, 1 injections cut, 2 withdrawals cut; plus 4 where S3 is outside the band
- *   reason         1 implicit nomination taken, 2 n1 is not n0, 4 n2 is not n1, 8 n3 is not n2, 16 n3 = 0 is outside the
- *                  margins; their sum
+ *   reason         1 not nominated and taken as sold (n0 is -PC: coincide is 1 or the class is 0), 2 n1 is not n0, 4 n2 is not
+ *                  n1, 8 n3 is not n2, 16 n3 = 0 is outside the margins; their sum
  */
 int32_t flehwella_check(const uint8_t *day, size_t day_length, const uint8_t *block, size_t block_length, uint8_t *room,
                         size_t room_length);

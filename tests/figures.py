@@ -20,6 +20,12 @@ def unit(n0, pc=0, low=-LIMIT, high=LIMIT, cls=0, implicit=False):
     return {"n0": n0, "pc": pc, "low": low, "high": high, "cls": cls, "implicit": implicit}
 
 
+def not_nominated(pc, cls, coincide):
+    """What was sold is taken where BRP and BSP coincide, or the unit is not enabled."""
+    implicit = bool(coincide) or cls == 0
+    return unit(-pc if implicit else 0, pc, cls=cls, implicit=implicit)
+
+
 def wide(p, *n0s):
     """Nominated units of class 0 with wide margins; the first one's PC is P."""
     return [unit(n0, 0 if i else p) for i, n0 in enumerate(n0s)]
@@ -110,8 +116,10 @@ SMALL = [
     ("10, M- -80, M+ -50; P 40", [unit(10, 40, **TURNED)],
      {"n1": [-50], "n2": [-40], "n3": [-50], "balance": [10], "verdict": [6], "reasons": [14]}),
     ("10, M- -80, M+ -50; P 0", [unit(10, 0, **TURNED)], {"n3": [0], "reasons": [22]}),
-    ("Not nominated, PC -500, coincide 1", [unit(500, -500, implicit=True)], {"n0": [500]}),
-    ("Not nominated, PC -500, coincide 0", [unit(0, -500)], {"n0": [0]}),
+    ("Not nominated, PC -500, class 0, coincide 1", [not_nominated(-500, 0, 1)], {"n0": [500], "reasons": [1]}),
+    ("Not nominated, PC -500, class 1, coincide 1", [not_nominated(-500, 1, 1)], {"n0": [500], "reasons": [1]}),
+    ("Not nominated, PC -500, class 1, coincide 0", [not_nominated(-500, 1, 0)], {"n0": [0], "reasons": [0]}),
+    ("Not nominated, PC -500, class 0, coincide 0", [not_nominated(-500, 0, 0)], {"n0": [500], "reasons": [1]}),
     ("The day list's three units", DAY_LIST,
      {"verdict": [5], "P": [-13999], "S1": [16500], "S2": [13999], "S3": [14399], "balance": [-400],
       "reasons": [6, 12, 0], "n0": [5000, 3000, 9000], "n1": [4500, 3000, 9000],

@@ -112,7 +112,7 @@ static inline void transpose(v4 *a, v4 *b, v4 *c, v4 *d)
 
 /* What is kept of the units; columns that are read past the last unit have room for it. */
 struct columns {
-    int32_t n0[64], n1[68], m_down[64], m_up[64], head[64], class_of[68], implicit[64], loss[68], key[72];
+    int32_t n0[64], n1[68], m_down[64], m_up[64], head[64], class_of[68], not_implicit[64], loss[68], key[72];
 };
 
 struct gathered {
@@ -150,7 +150,8 @@ static inline __attribute__((always_inline)) v4 read_4(const uint8_t *at, struct
     faults = OR(faults, GT(XOR(SUB(ALL(run), made), ALL(TOP)), ALL(age_limit ^ TOP)));
     g->faults = OR(g->faults, faults);
 
-    const v4 implicit = NOTAND(nominated, coincide), n0 = OR(n, AND(implicit, SUB(ZERO, pc)));
+    /* A unit of class 1 takes no implicit nomination where BRP and BSP differ; one of class 0, which is not enabled, takes it. */
+    const v4 not_implicit = OR(nominated, NOTAND(coincide, class_of)), n0 = OR(n, NOTAND(not_implicit, SUB(ZERO, pc)));
     const v4 n1 = OR(AND(GT(n0, ZERO), least(n0, m_up)), AND(GT(ZERO, n0), most(n0, m_down)));
     g->p = ADD(g->p, AND(pc, mine));
     g->s1 = ADD(g->s1, AND(n1, mine));
@@ -160,7 +161,7 @@ static inline __attribute__((always_inline)) v4 read_4(const uint8_t *at, struct
     STORE(c->m_up + i, m_up);
     STORE(c->head + i, head);
     STORE(c->class_of + i, class_of);
-    STORE(c->implicit + i, implicit);
+    STORE(c->not_implicit + i, not_implicit);
     return _mm_srli_si128(number, 12);
 }
 
@@ -259,7 +260,7 @@ static inline __attribute__((always_inline)) v4 write_4(uint8_t *at, const struc
     }
     v4 n3 = OR(AND(GT(n2, ZERO), most(n2, m_down)), AND(GT(ZERO, n2), least(n2, m_up)));
     const v4 off_margins = AND(EQ(n3, ZERO), OR(GT(m_down, ZERO), GT(ZERO, m_up)));
-    v4 reason = OR(AND(LOAD(c->implicit + i), ALL(1 << 24)), AND(off_margins, ALL(16 << 24)));
+    v4 reason = OR(NOTAND(LOAD(c->not_implicit + i), ALL(1 << 24)), AND(off_margins, ALL(16 << 24)));
     reason = OR(reason, NOTAND(EQ(n0, n1), ALL(2 << 24)));
     reason = OR(reason, OR(NOTAND(EQ(n1, n2), ALL(4 << 24)), NOTAND(EQ(n2, n3), ALL(8 << 24))));
     int32_t head[4];

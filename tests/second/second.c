@@ -1,6 +1,6 @@
-/* The ways in of document 01, with request 2 of document 02 ("late or early").
- * The parts follow the sections of 01: quantities and signs, the steps, house
- * records, the table of the day, ways in. */
+/* The ways in of document 01, with requests 2 ("late or early") and 4 ("implicit
+ * nominations we missed") of document 02. The parts follow the sections of 01:
+ * quantities and signs, the steps, house records, the table of the day, ways in. */
 #include "second.h"
 
 #include <stdbool.h>
@@ -101,11 +101,18 @@ static bool count_permitted(size_t count)
 
 /* ---- The steps ---------------------------------------------------------- */
 
-static int32_t considered(bool nominated, bool coincide, int32_t n, int32_t pc)
+/* Whether the implicit nomination is taken. Document 000, footnote 3, also gives it
+ * to a unit that is not enabled (class 0), even where BRP and BSP differ. */
+static bool implicit_taken(bool nominated, bool coincide, uint8_t class_of)
+{
+    return !nominated && (coincide || class_of == 0);
+}
+
+static int32_t considered(bool nominated, bool implicit, int32_t n, int32_t pc)
 {
     if (nominated)
         return n;
-    return coincide ? nomination_of_position(pc) : 0;
+    return implicit ? nomination_of_position(pc) : 0;
 }
 
 static int32_t step_1(int32_t n0, int32_t m_down, int32_t m_up)
@@ -522,8 +529,8 @@ static second_refusal read_block(const second_day *day, const uint8_t *bytes, si
         number_before = u.number;
         b->number[i] = u.number;
         b->class_of[i] = u.class_of;
-        b->implicit[i] = !u.nominated && u.coincide;
-        b->n0[i] = considered(u.nominated, u.coincide, u.n, u.pc);
+        b->implicit[i] = implicit_taken(u.nominated, u.coincide, u.class_of);
+        b->n0[i] = considered(u.nominated, b->implicit[i], u.n, u.pc);
         b->pc[i] = u.pc;
         b->m_down[i] = u.m_down;
         b->m_up[i] = u.m_up;

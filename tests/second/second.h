@@ -1,6 +1,6 @@
-/* The second program: the ways in of document 01 ("Ways in"), with request 2 of
- * document 02 in place, written from the documents alone so that the proved
- * product can be compared with it in bulk.
+/* The second program: the ways in of document 01 ("Ways in"), with requests 2
+ * and 4 of document 02 in place, written from the documents alone so that the
+ * proved product can be compared with it in bulk.
  * This header is what a program that links second.o may use. */
 #ifndef SECOND_H
 #define SECOND_H

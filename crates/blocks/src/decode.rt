@@ -62,7 +62,7 @@ fn read_into(
         if !marks_pass(u, floor, run, limit) {
             return broken_off();
         }
-        let implicit = is_implicit(u.nominated, u.coincide);
+        let implicit = is_implicit(u.class, u.nominated, u.coincide);
         let start = considered(implicit, u.n, u.pc);
         let margins = u.margins();
         let n = start.0;

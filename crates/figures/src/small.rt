@@ -1,5 +1,8 @@
-// "Small figures" of document 01.
+// "Small figures" of document 01, with those of 02, §4.
+ghost use mathlib.Core.Path.{_≡_};
+ghost use mathlib.Core.Bool.{true};
 ghost use Prim.Native.Nat.{_≤_};
+ghost use Rattle.terms.specs.Quantities.{knownClass};
 use crate::show::HIGH;
 use crate::show::LOW;
 use crate::show::show;
@@ -24,17 +27,19 @@ pub fn margins() {
 }
 
 // A unit that is not nominated, with PC -500.
-fn not_nominated(name: &[u8], coincide: u8)
-    requires { ⌜ coincide ≤ 1 ⌝ }
+fn not_nominated(name: &[u8], class: u8, coincide: u8)
+    requires { ⌜ (knownClass class ≡ true) × (coincide ≤ 1) ⌝ }
 {
-    let implicit = is_implicit(0, coincide);
+    let implicit = is_implicit(class, 0, coincide);
     let n0 = considered(implicit, Nomination(0), Position(-500));
-    show(name, implicit, &[n0.0], &[-500], &[LOW], &[HIGH], &[0]);
+    show(name, implicit, &[n0.0], &[-500], &[LOW], &[HIGH], &[class]);
 }
 
 pub fn implicit() {
-    not_nominated(b"Not nominated, PC -500, coincide 1", 1);
-    not_nominated(b"Not nominated, PC -500, coincide 0", 0);
+    not_nominated(b"Not nominated, PC -500, class 0, coincide 1", 0, 1);
+    not_nominated(b"Not nominated, PC -500, class 1, coincide 1", 1, 1);
+    not_nominated(b"Not nominated, PC -500, class 1, coincide 0", 1, 0);
+    not_nominated(b"Not nominated, PC -500, class 0, coincide 0", 0, 0);
 }
 
 pub fn day_list() {

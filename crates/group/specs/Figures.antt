@@ -25,16 +25,16 @@ pub record Fields : Type 0 where
   pub stepDown : ℤ
   pub stepUp : ℤ
 
--- a nominated unit by class, N, PC, M- and M+; one of class 0 with wide margins by N and PC; one that is not nominated by coincide and PC
+-- a nominated unit by class, N, PC, M- and M+; one of class 0 with wide margins by N and PC; one that is not nominated by class, coincide and PC
 abbrev pub nominated : ℕ → ℤ → ℤ → ℤ → ℤ → Fields
 nominated class n pc stepDown stepUp = record { class = class; coincide = 0; nominated = 1; n = n; pc = pc; stepDown = stepDown; stepUp = stepUp }
 
 abbrev pub plain : ℤ → ℤ → Fields
 plain n pc = nominated 0 n pc (neg 1000000) (pos 1000000)
 
-abbrev pub notNominated : ℕ → ℤ → Fields
-notNominated coincide pc =
-    record { class = 0; coincide = coincide; nominated = 0; n = pos 0; pc = pc; stepDown = neg 1000000; stepUp = pos 1000000 }
+abbrev pub notNominated : ℕ → ℕ → ℤ → Fields
+notNominated class coincide pc =
+    record { class = class; coincide = coincide; nominated = 0; n = pos 0; pc = pc; stepDown = neg 1000000; stepUp = pos 1000000 }
 
 -- a value that a figure gives; a figure says nothing of the others
 pub data Told : Type 0 where
@@ -75,10 +75,14 @@ figures =
     (n1s (neg 50 ∷ []) ∷ n2s (neg 40 ∷ []) ∷ n3s (neg 50 ∷ []) ∷ balance (pos 10) ∷ verdict 6 ∷ whys (14 ∷ []) ∷ [])
     -- The same with P 0: n3 0, reason 22.
     ∷ row (nominated 0 (pos 10) (pos 0) (neg 80) (neg 50) ∷ []) (n3s (pos 0 ∷ []) ∷ whys (22 ∷ []) ∷ [])
-    -- Not nominated, PC -500: n0 500 with coincide 1,
-    ∷ row (notNominated 1 (neg 500) ∷ []) (n0s (pos 500 ∷ []) ∷ [])
-    -- 0 with coincide 0.
-    ∷ row (notNominated 0 (neg 500) ∷ []) (n0s (pos 0 ∷ []) ∷ [])
+    -- Not nominated, PC -500, as 02, §4 has it, and reason 1 where n0 is 500: with coincide 1, of class 0
+    ∷ row (notNominated 0 1 (neg 500) ∷ []) (n0s (pos 500 ∷ []) ∷ whys (1 ∷ []) ∷ [])
+    -- and of class 1;
+    ∷ row (notNominated 1 1 (neg 500) ∷ []) (n0s (pos 500 ∷ []) ∷ whys (1 ∷ []) ∷ [])
+    -- 0 with coincide 0, of class 1;
+    ∷ row (notNominated 1 0 (neg 500) ∷ []) (n0s (pos 0 ∷ []) ∷ whys (0 ∷ []) ∷ [])
+    -- class 0 gives 500 there.
+    ∷ row (notNominated 0 0 (neg 500) ∷ []) (n0s (pos 500 ∷ []) ∷ whys (1 ∷ []) ∷ [])
     -- The day list's three units.
     ∷ row
     (nominated 0 (pos 5000) (neg 4000) (pos 0) (pos 4500)
@@ -103,7 +107,7 @@ figures =
 unfoldable pub groupOf : List Fields → Group
 groupOf us =
     record {
-      n0 = map (λ (u : Fields). consideredOf (u .nominated) (u .coincide) (u .n) (u .pc)) us;
+      n0 = map (λ (u : Fields). consideredOf (u .class) (u .nominated) (u .coincide) (u .n) (u .pc)) us;
       pc = map (λ (u : Fields). u .pc) us;
       stepDown = map (λ (u : Fields). u .stepDown) us;
       stepUp = map (λ (u : Fields). u .stepUp) us;
@@ -111,7 +115,7 @@ groupOf us =
     }
 
 unfoldable pub reasonsOf : List Fields → List ℕ
-reasonsOf us = reasons (map (λ (u : Fields). bit (implicit (u .nominated) (u .coincide))) us) (groupOf us)
+reasonsOf us = reasons (map (λ (u : Fields). bit (implicit (u .class) (u .nominated) (u .coincide))) us) (groupOf us)
 
 -- tests over lists
 unfoldable pub same : {A : Type 0} → (A → A → Bool) → List A → List A → Bool

@@ -14,7 +14,7 @@ use Rattle.numbers.specs.Range.{Within}
 use Rattle.numbers.specs.Choice.{pick, eqZ}
 use Rattle.numbers.proofs.Integers.{zarith, neg, one-side, by-test}
 use Rattle.terms.specs.Reply.{is}
-use Rattle.terms.specs.Quantities.{knownClass, implicit, consideredOf}
+use Rattle.terms.specs.Quantities.{knownClass, takesSold, consideredOf}
 use Rattle.terms.specs.Checks.{inRange, marginChecks, amountChecks}
 use Rattle.terms.specs.declared.refusal.Checked.the-variants.{Fine}
 use Rattle.terms.proofs.Replies.{next-is}
@@ -36,11 +36,11 @@ range-within z e =
     omega (zarith, one-side z)
 
 -- the considered nomination is N, -PC or 0
-pub n0-within : (nominated coincide : ℕ) (n pc : ℤ) → Within 1000000 n → Within 1000000 pc → Within 1000000 (consideredOf nominated coincide n pc)
-n0-within nominated coincide n pc hn hp =
-    by-test (eqb nominated 1) (λ t. Within 1000000 (pick t n (pick (implicit nominated coincide) (negℤ pc) (pos 0))))
+pub n0-within : (class nominated coincide : ℕ) (n pc : ℤ) → Within 1000000 n → Within 1000000 pc → Within 1000000 (consideredOf class nominated coincide n pc)
+n0-within class nominated coincide n pc hn hp =
+    by-test (eqb nominated 1) (λ t. Within 1000000 (pick t n (pick (takesSold class coincide) (negℤ pc) (pos 0))))
     (λ h. hn)
-    (λ h. by-test (implicit nominated coincide) (λ t. Within 1000000 (pick t (negℤ pc) (pos 0))) (λ k. omega (zarith, neg pc)) (λ k. omega zarith))
+    (λ h. by-test (takesSold class coincide) (λ t. Within 1000000 (pick t (negℤ pc) (pos 0))) (λ k. omega (zarith, neg pc)) (λ k. omega zarith))
 
 -- what the checks leave of a unit's values
 pub record Sound (u : UnitRecord) : Type 0 where
@@ -79,7 +79,7 @@ sound u floor e =
       pc = hp;
       step-down = range-within _ (down .0);
       step-up = range-within _ (up .0);
-      n0 = n0-within (u .nominated) (u .coincide) _ _ hn hp;
+      n0 = n0-within (u .class) (u .nominated) (u .coincide) _ _ hn hp;
       ordered = passes _ _ _ (up .1) .0;
     }
 

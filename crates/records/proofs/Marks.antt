@@ -13,7 +13,7 @@ use Rattle.numbers.specs.Range.{Within}
 use Rattle.numbers.proofs.Choices.{and-both}
 use Rattle.numbers.proofs.Integers.{zarith}
 use Rattle.terms.specs.Reply.{is, next}
-use Rattle.terms.specs.Quantities.{implicit}
+use Rattle.terms.specs.Quantities.{knownClass, takesSold}
 use Rattle.terms.specs.Refusals.{check, passed}
 use Rattle.terms.specs.Checks.{inRange, marginChecks, amountChecks}
 use Rattle.terms.specs.declared.refusal.Checked.{Checked}
@@ -41,7 +41,7 @@ fine-is (Faulty fault) e =
 pub record Marked (u : UnitRecord) : Type 0 where
   pub stated : eqb (u .nominated) 1 || eqZ (u .n .0) (pos 0) ≡ true
   pub pc : Within 1000000 (u .pc .0)
-  pub flags : (u .nominated ≤ 1) × (u .coincide ≤ 1)
+  pub flags : (knownClass (u .class) ≡ true) × ((u .nominated ≤ 1) × (u .coincide ≤ 1))
 
 module _ (u : UnitRecord) (floor run limit : ℕ) where
   parts : marksPass u floor run limit ≡ true → (markFaults u floor ≡ Fine) × ((inRange (u .pc .0) ≡ true) × (aged run (u .made) limit ≡ true))
@@ -59,7 +59,7 @@ module _ (u : UnitRecord) (floor run limit : ℕ) where
       let coincide = passes _ _ _ (class .1) in
       let nominated = passes _ _ _ (coincide .1) in
       let stated = passes _ _ _ (nominated .1) in
-      record { stated = stated .0; pc = range-within _ (p .1 .0); flags = (leb-true _ _ (nominated .0), leb-true _ _ (coincide .0)) }
+      record { stated = stated .0; pc = range-within _ (p .1 .0); flags = (class .0, (leb-true _ _ (nominated .0), leb-true _ _ (coincide .0))) }
 
   -- a unit without a fault has these marks
   pub marks-needed : unitFaults u floor run limit ≡ Fine → marksPass u floor run limit ≡ true
@@ -74,7 +74,7 @@ module _ (u : UnitRecord) (floor run limit : ℕ) where
 
   -- N lies in its range where n0 does: it is n0, or 0
   n-in-range : eqb (u .nominated) 1 || eqZ (u .n .0) (pos 0) ≡ true → inRange (unitN0 u) ≡ true → inRange (u .n .0) ≡ true
-  n-in-range = go (eqb (u .nominated) 1) (implicit (u .nominated) (u .coincide)) (u .n .0) (u .pc .0)
+  n-in-range = go (eqb (u .nominated) 1) (takesSold (u .class) (u .coincide)) (u .n .0) (u .pc .0)
     where
       go : (t i : Bool) (n pc : ℤ) → t || eqZ n (pos 0) ≡ true → inRange (pick t n (pick i (negℤ pc) (pos 0))) ≡ true → inRange n ≡ true
       go true i n pc e h = h

@@ -12,10 +12,10 @@ use Rattle.records.specs.Reading.{unitIn}
 
 -- the considered nomination of a unit, and whether it is implicit
 abbrev pub unitN0 : UnitRecord → ℤ
-unitN0 u = consideredOf (u .nominated) (u .coincide) (u .n .0) (u .pc .0)
+unitN0 u = consideredOf (u .class) (u .nominated) (u .coincide) (u .n .0) (u .pc .0)
 
 abbrev pub unitImplicit : UnitRecord → Bool
-unitImplicit u = implicit (u .nominated) (u .coincide)
+unitImplicit u = implicit (u .class) (u .nominated) (u .coincide)
 
 -- the columns of the first so many units of a block
 abbrev pub numbersIn : List ℕ → ℕ → List ℕ

@@ -1,6 +1,6 @@
 -- "Quantities and signs", and the words of "The steps": classes, directions, the considered nomination.
 use Prim.Native.Nat.{ℕ}
-use mathlib.Core.Bool.{Bool, not, _&&_}
+use mathlib.Core.Bool.{Bool, not, _&&_, _||_}
 use lib.Dec.{eqb, leb}
 use lib.IntN.{ℤ, pos, negℤ, natAbs}
 use lib.Signed.{ltZ}
@@ -24,10 +24,14 @@ abbrev pub sizeIn : Direction → ℤ → ℕ
 sizeIn Injections n = pick (ltZ (pos 0) n) (natAbs n) 0
 sizeIn Withdrawals n = pick (ltZ n (pos 0)) (natAbs n) 0
 
--- a nomination is implicit, and taken: not nominated, and BRP and BSP coincide
-abbrev pub implicit : ℕ → ℕ → Bool
-implicit nominated coincide = not (eqb nominated 1) && eqb coincide 1
+-- of a unit that is not nominated what was sold is taken where BRP and BSP coincide, and where it is not enabled even if they differ (000, footnote 3; 02, §4)
+abbrev pub takesSold : ℕ → ℕ → Bool
+takesSold class coincide = eqb coincide 1 || standing NotEnabled class
 
--- the considered nomination n0: N where nominated, otherwise -PC where the nomination is implicit, else 0
-abbrev pub consideredOf : ℕ → ℕ → ℤ → ℤ → ℤ
-consideredOf nominated coincide n pc = pick (eqb nominated 1) n (pick (implicit nominated coincide) (negℤ pc) (pos 0))
+-- a nomination is implicit: the unit is not nominated, and what was sold is taken
+abbrev pub implicit : ℕ → ℕ → ℕ → Bool
+implicit class nominated coincide = not (eqb nominated 1) && takesSold class coincide
+
+-- the considered nomination n0: N where nominated, otherwise -PC where what was sold is taken, else 0
+abbrev pub consideredOf : ℕ → ℕ → ℕ → ℤ → ℤ → ℤ
+consideredOf class nominated coincide n pc = pick (eqb nominated 1) n (pick (takesSold class coincide) (negℤ pc) (pos 0))

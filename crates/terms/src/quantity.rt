@@ -1,5 +1,6 @@
 // Quantities with their signs, and what a class byte says.
 ghost use mathlib.Core.Path.{_≡_};
+ghost use mathlib.Core.Bool.{true};
 ghost use Prim.Native.Nat.{_≤_};
 ghost use lib.IntN.{negℤ};
 ghost use Rattle.numbers.specs.Choice.{pick};
@@ -91,12 +92,12 @@ impl Direction {
     }
 }
 
-// Whether a nomination is implicit, and taken: of two flags one comparison tells it, so that a loop over units has no branch.
-pub fn is_implicit(nominated: u8, coincide: u8) -> bool
-    requires { ⌜ (nominated ≤ 1) × (coincide ≤ 1) ⌝ }
-    ensures { λ r. ⌜ r ≡ implicit nominated coincide ⌝ }
+// Whether a nomination is implicit, and taken: not nominated, and either not enabled (class 0) or BRP and BSP coincide. Of three flags one comparison tells it, so that a loop over units has no branch.
+pub fn is_implicit(class: u8, nominated: u8, coincide: u8) -> bool
+    requires { ⌜ (knownClass class ≡ true) × ((nominated ≤ 1) × (coincide ≤ 1)) ⌝ }
+    ensures { λ r. ⌜ r ≡ implicit class nominated coincide ⌝ }
 {
-    nominated < coincide
+    2 * nominated + class <= coincide
 }
 
 // The nomination that the steps start from: what was sold where it is implicit, and else N, which is 0 where not nominated.

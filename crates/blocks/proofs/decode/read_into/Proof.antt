@@ -280,7 +280,7 @@ loop-again c =
     let w = marked _ _ _ _ passes in
     let implied = margins .before .before .is-implicit .ensures in
     let begun : margins .before .considered .result .0 ≡ unitN0 u =
-    margins .before .considered .ensures ∙ ap (λ (b : Bool). pick b (negℤ (u .pc .0)) (u .n .0)) implied ∙ considered-by (u .nominated) (u .coincide) (u .n .0) (u .pc .0) (w .stated) in
+    margins .before .considered .ensures ∙ ap (λ (b : Bool). pick b (negℤ (u .pc .0)) (u .n .0)) implied ∙ considered-by (u .class) (u .nominated) (u .coincide) (u .n .0) (u .pc .0) (w .stated) in
     let zn : toZ w32 (ofZ w32 (margins .before .considered .result .0)) ≡ margins .before .considered .result .0 = toZ-ofZ (record { sfits = margins .before .considered .ok .1 .1 .0 .1 }) in
     let zd : toZ w32 (ofZ w32 (margins .margins .result .«step_down»)) ≡ margins .margins .result .«step_down» = toZ-ofZ (record { sfits = margins .margins .ok .1 .1 .0 .1 }) in
     let zu : toZ w32 (ofZ w32 (margins .margins .result .«step_up»)) ≡ margins .margins .result .«step_up» = toZ-ofZ (record { sfits = margins .margins .ok .1 .1 .1 .0 .1 }) in
