@@ -22,7 +22,7 @@ module _ (s : List ℕ) (c : ℕ) where
   unfolding whole rest
   share i = div-add-mod' (c * getD s i 0) (sum s)
 
-  rest-lt : 0 < sum s → (i : ℕ) → rest s c i < sum s
+  pub rest-lt : 0 < sum s → (i : ℕ) → rest s c i < sum s
   unfolding rest
   rest-lt pos i = mod-lt (c * getD s i 0) pos
 
@@ -65,7 +65,7 @@ module _ (s : List ℕ) (c : ℕ) where
     unfolding still
     still-add = omega (arith, wholes-le)
 
-    still-rests : still s c * sum s ≡ sumTo (length s) (rest s c)
+    pub still-rests : still s c * sum s ≡ sumTo (length s) (rest s c)
     still-rests = omega (arith, shares, ap (λ (x : ℕ). x * sum s) still-add)
 
     -- no more kWh are still to cut than there are remainders above 0
