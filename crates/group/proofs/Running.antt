@@ -1,12 +1,11 @@
--- Loops that fill a column place by place, and that keep the sum of what they fill in 32 bits: the first i places are those of the column, at the start, after a turn and at the end.
+-- Loops that fill a column place by place and keep the sum of what they fill in 32 bits, at the start, after a turn and at the end.
 use Prim.Native.Nat.{ℕ, zero, suc, _+_, _*_, _≤_, _<_}
-use mathlib.Core.Path.{_≡_, refl, ap, _∙_}
-use mathlib.Core.List.{List, _++_}
+use mathlib.Core.Path.{_≡_, refl}
+use mathlib.Core.List.{List}
 use native.Mathlib.Numerals.{add-one}
 use native.Mathlib.Omega.{arith}
 use lib.IntN.{ℤ, pos, _+ℤ_}
-use lib.ListN.{length, getD, drop, set, length-set}
-use lib.Seq.{drop-cons, getD-at}
+use lib.ListN.{length, set}
 use mir.Syntax.{w32}
 use mir.Val.{SFits, toZ, ofZ}
 use mir.Facts.{toZ-ofZ}
@@ -14,39 +13,10 @@ use Rattle.numbers.specs.Range.{Within}
 use Rattle.numbers.specs.Column.{column}
 use Rattle.numbers.specs.Sum.{sumZ}
 use Rattle.numbers.proofs.Integers.{zarith, plus}
-use Rattle.numbers.proofs.Columns.{column-length, column-none, column-more, column-all}
+use Rattle.numbers.proofs.Filling.{Filled, filled-start, filled-turn, filled-end}
 use Rattle.numbers.proofs.Sums.{sumZ-column}
 
--- of a lent column l the first i places are filled by f, and the others are as they were
-pub record Filled {X : Type 0} (f : ℕ → X) (n : ℕ) (l m : List X) (i : ℕ) : Type 0 where
-  pub some : i ≤ n
-  pub places : length m ≡ length l
-  pub filled : m ≡ column i f ++ drop i l
-
-pub filled-start : {X : Type 0} (f : ℕ → X) (n : ℕ) (l : List X) → Filled f n l l 0
-filled-start f n l = record { some = omega arith; places = refl; filled = column-none f l }
-
-module _ {X : Type 0} {f : ℕ → X} {n : ℕ} {l m : List X} {i : ℕ} (h : Filled f n l m i) (lent : length l ≡ n) where
-  -- the place that is filled next is as it was
-  pub filled-next : (d : X) → i < n → getD m i d ≡ getD l i d
-  filled-next d t =
-      let s : i < length l = omega arith in
-      ap (λ (k : List X). getD k i d) (h .filled) ∙ rw (drop-cons l i d s) (getD-at (column i f) (getD l i d) (drop (suc i) l) d i (column-length f i))
-
-  pub filled-turn : {v : X} (d : X) → v ≡ f i → i < n → Filled f n l (set m i v) (i + 1)
-  filled-turn d e t =
-      record {
-        some = omega arith;
-        places = simp length-set (h .places);
-        filled = rw (e, h .filled) (column-more f i l d (omega arith));
-      }
-
-  pub filled-end : n ≤ i → m ≡ column n f
-  filled-end t =
-      let e : i ≡ n = omega (arith, h .some) in
-      h .filled ∙ rw e (column-all f l n lent)
-
--- and s is the sum of what is filled, as 32 bits
+-- the first i places of a lent column are filled by f, and s is the sum of them, as 32 bits
 pub record Run (f : ℕ → ℤ) (n : ℕ) (l m : List ℤ) (s i : ℕ) : Type 0 where
   pub places : Filled f n l m i
   pub sum : s ≡ ofZ w32 (sumZ (column i f))

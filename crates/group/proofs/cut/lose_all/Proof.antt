@@ -12,9 +12,9 @@ use mir.Syntax.{w32}
 use mir.Val.{SFits}
 use mir.Facts.{toZ-ofZ}
 use Rattle.numbers.specs.Column.{at}
+use Rattle.numbers.proofs.Filling.{Filled, filled-start, filled-next, filled-turn, filled-end}
 use Rattle.terms.specs.declared.quantity.Direction.{Direction}
 use Rattle.group.specs.Inner.{lossOf}
-use Rattle.group.proofs.Running.{Filled, filled-start, filled-next, filled-turn, filled-end}
 use Rattle.group.proofs.cut.lose_all.Tie as tie
 use Rattle.group.proofs.cut.lose_all.Statement.{statement}
 

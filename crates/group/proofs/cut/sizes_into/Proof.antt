@@ -13,11 +13,11 @@ use mir.Facts.{toZ-ofZ}
 use Rattle.numbers.specs.Column.{at}
 use Rattle.numbers.specs.Sum.{sumTo}
 use Rattle.numbers.proofs.Sums.{sumTo-one, sum-column}
+use Rattle.numbers.proofs.Filling.{Filled, filled-start, filled-turn, filled-end}
 use Rattle.terms.specs.declared.quantity.Standing.{Standing}
 use Rattle.terms.specs.declared.quantity.Direction.{Direction}
 use Rattle.group.specs.Group.{sizeOf, sizesOf}
 use Rattle.group.proofs.Ranges.{size-small}
-use Rattle.group.proofs.Running.{Filled, filled-start, filled-turn, filled-end}
 use Rattle.group.proofs.cut.sizes_into.Tie as tie
 use Rattle.group.proofs.cut.sizes_into.Statement.{statement}
 

@@ -10,7 +10,7 @@ use mir.Val.{SFits}
 use mir.Facts.{toZ-ofZ}
 use Rattle.numbers.specs.Column.{at}
 use Rattle.numbers.proofs.Columns.{column-self}
-use Rattle.group.proofs.Running.{Filled, filled-start, filled-turn, filled-end}
+use Rattle.numbers.proofs.Filling.{Filled, filled-start, filled-turn, filled-end}
 use Rattle.group.proofs.judge.copy.Statement.{statement}
 use Rattle.group.proofs.judge.copy.Tie as tie
 

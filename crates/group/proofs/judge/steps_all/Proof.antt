@@ -13,11 +13,12 @@ use mir.Facts.{toZ-ofZ}
 use Rattle.numbers.specs.Column.{column, at}
 use Rattle.numbers.specs.Sum.{sumZ}
 use Rattle.numbers.proofs.Columns.{column-length, column-at}
+use Rattle.numbers.proofs.Filling.{Filled, filled-start, filled-next, filled-turn, filled-end}
 use Rattle.terms.specs.declared.quantity.Direction.{Direction}
 use Rattle.group.specs.Steps.{nearerBy}
 use Rattle.group.specs.Group.{step3All, reasonsAll}
 use Rattle.group.specs.Inner.{leftBy, Explained}
-use Rattle.group.proofs.Running.{Filled, filled-start, filled-next, filled-turn, filled-end, Run, run-start, run-adds, run-turn, run-end}
+use Rattle.group.proofs.Running.{Run, run-start, run-adds, run-turn, run-end}
 use Rattle.group.proofs.Ranges.{thirdAt, third-small}
 use Rattle.group.proofs.Explaining.{reasonAt, reasons-end}
 use Rattle.group.proofs.judge.steps_all.Statement.{statement}
