@@ -97,13 +97,13 @@ module _ {s : List ℕ} {p : ℤ} {cut : Cut} {taken : List ℕ} {n0 x1 : List �
   pub e-fits : SFits w32 (cut .e)
   e-fits = judging.e-fits h (w .off)
 
-  pub losing : {second : List ℤ} → length second ≡ length n0 → Lost x1 losses second
-  losing l = judging.cut-lost h (w .off) (l ∙ ap length (w .starts))
+  pub losing : Lost x1 losses
+  losing = judging.cut-lost h (w .off)
 
   pub start-count : length n0 ≡ blockCount s
   start-count = ap length (w .starts) ∙ units-count (w .passed)
 
-  pub few : length n0 ≤ mostUnits
+  few : length n0 ≤ mostUnits
   few = omega (arith, start-count, w .passed .few)
 
   first-count : length x1 ≡ blockCount s
@@ -115,7 +115,7 @@ module _ {s : List ℕ} {p : ℤ} {cut : Cut} {taken : List ℕ} {n0 x1 : List �
     second-count = ap length (judging.n2-is h (w .off) second) ∙ judging.n2-length h ∙ units-count (w .passed)
 
     pub aligned : Aligned x2 down up down
-    aligned = rw (w .ups) (judging.cut-aligned h (w .off) second (w .downs))
+    aligned = judging.cut-aligned h (w .off) second (w .downs) (w .ups)
 
     pub explained : Explained taken n0 x1 x2 down up
     explained =

@@ -22,7 +22,7 @@ use terms::quantity::Position;
 use terms::refusal::Refusal;
 use terms::refusal::Why;
 
-// Steps 2 and 3, the reasons and the result of a block after step 1, by way of a lent column.
+// Steps 2 and 3, the reasons and the result of a block after step 1. The margins are read here for the last time, so n2 and n3 take their places.
 fn write_rest(
     s: &[u8],
     p: Position,
@@ -32,50 +32,16 @@ fn write_rest(
     n0: &[i32],
     n1: &[i32],
     losses: &[u32],
+    second: &mut [i32],
     third: &mut [i32],
-    step_up: &[i32],
-    n2: &mut [i32],
 )
-    requires { ⌜ Cutting (now s) (p .0) cut (now why) (now n0) (now n1) (now losses) (now third) (now «step_up») (now room) × (length (now n2) ≡ length (now n0)) ⌝ }
+    requires { ⌜ Cutting (now s) (p .0) cut (now why) (now n0) (now n1) (now losses) (now third) (now second) (now room) ⌝ }
     ensures { λ _. ⌜ now (room .exit) ≡ laidAt (now (room .entry)) 0 (blockResult (now (s .entry))) ⌝ }
 {
     let d = direction(cut.e);
-    let s3 = steps_all(d, n0, n1, losses, n2, third, step_up, why);
-    lay_unit_results(room, s, why, n0, n1, n2, third);
+    let s3 = steps_all(d, n0, n1, losses, second, third, why);
+    lay_unit_results(room, s, why, n0, n1, second, third);
     lay_group_result(room, s, summed(p, cut, s3));
-}
-
-// The same with a column of its own, made here, when step 2 has worked out what each unit loses and needs no column of its own any more.
-fn write_cut(
-    s: &[u8],
-    p: Position,
-    cut: Cut,
-    room: &mut [u8],
-    why: &mut [u32],
-    n0: &[i32],
-    n1: &[i32],
-    losses: &[u32],
-    third: &mut [i32],
-    step_up: &[i32],
-)
-    requires { ⌜ Cutting (now s) (p .0) cut (now why) (now n0) (now n1) (now losses) (now third) (now «step_up») (now room) ⌝ }
-    ensures { λ _. ⌜ now (room .exit) ≡ laidAt (now (room .entry)) 0 (blockResult (now (s .entry))) ⌝ }
-{
-    let n = n0.len();
-    let mut n2 = [0i32; 64];
-    write_rest(
-        s,
-        p,
-        cut,
-        room,
-        why,
-        n0,
-        n1,
-        losses,
-        third,
-        step_up,
-        &mut n2[..n],
-    );
 }
 
 // Step 1 of a block that passed, and then the same, by way of the columns that were read and two that are lent.
@@ -89,7 +55,7 @@ fn write_passed(
     n1: &mut [i32],
     losses: &mut [u32],
     step_down: &mut [i32],
-    step_up: &[i32],
+    step_up: &mut [i32],
 )
     requires { ⌜ Passed (now s) × Decoded (now s) (p .0) (now class) (now why) (now n0) (now «step_down») (now «step_up») ⌝ }
     requires { ⌜ (length (now n1) ≡ blockCount (now s)) × (now losses ≡ zeros (blockCount (now s))) ⌝ }
@@ -97,7 +63,7 @@ fn write_passed(
     ensures { λ _. ⌜ now (room .exit) ≡ laidAt (now (room .entry)) 0 (blockResult (now (s .entry))) ⌝ }
 {
     let cut = cut_all(p, n0, step_down, step_up, class, n1, losses);
-    write_cut(s, p, cut, room, why, n0, n1, losses, step_down, step_up);
+    write_rest(s, p, cut, room, why, n0, n1, losses, step_up, step_down);
 }
 
 // A block is checked, then the room; then it is judged and its result written, by way of lent columns.

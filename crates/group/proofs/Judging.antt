@@ -95,8 +95,8 @@ module _ {p : ℤ} {n0 stepDown stepUp : List ℤ} {class : List ℕ} {first : L
     pub e-fits : SFits w32 (cut .e)
     e-fits = rw e-is (omega (zarith, e-within))
 
-    pub cut-lost : {second : List ℤ} → length second ≡ length n0 → Lost y1 losses second
-    cut-lost l = rw (k .lost, k .clamped) (lost e x1 class n1-bearable (l ∙ sym n1-length))
+    pub cut-lost : Lost y1 losses
+    cut-lost = rw (k .lost, k .clamped) (lost e x1 class n1-bearable)
 
     pub n2-is : {y2 : List ℤ} → y2 ≡ leftBy (directionOf (cut .e)) y1 losses → y2 ≡ x2
     n2-is second = second ∙ rw (e-is, k .lost, k .clamped) (left-is e x1 class)
@@ -106,20 +106,20 @@ module _ {p : ℤ} {n0 stepDown stepUp : List ℤ} {class : List ℕ} {first : L
       s2-is : sumZ y2 ≡ cut .s1 -ℤ cut .e
       s2-is = rw (n2-is second, s1-is, e-is) (sum-less e x1 class (n1-bearable .borne) n1-classed)
 
-      pub cut-aligned : {third : List ℤ} → third ≡ stepDown → Aligned y2 third stepUp third
-      cut-aligned l =
+      pub cut-aligned : {down up : List ℤ} → down ≡ stepDown → up ≡ stepUp → Aligned y2 down up down
+      cut-aligned d u =
           let m = sym n2-length in
-          rw (n2-is second, l)
+          rw (n2-is second, d, u)
           (record { few = n2-few; down = h .downs ∙ m; up = h .ups ∙ m; places = h .downs ∙ m; small = n2-small; down-small = h .down-small; up-small = h .up-small })
 
-      pub cut-explained : {taken : List ℕ} {third : List ℤ} → third ≡ stepDown → length taken ≡ length n0 → ((i : ℕ) → getD taken i 0 ≤ 1)
-          → Explained taken n0 y1 y2 third stepUp
-      cut-explained t l told =
+      pub cut-explained : {taken : List ℕ} {down up : List ℤ} → down ≡ stepDown → up ≡ stepUp → length taken ≡ length n0 → ((i : ℕ) → getD taken i 0 ≤ 1)
+          → Explained taken n0 y1 y2 down up
+      cut-explained d u l told =
           record {
             firsts = ap length (k .clamped) ∙ n1-length;
             seconds = ap length (n2-is second) ∙ n2-length;
-            downs = ap length t ∙ h .downs;
-            ups = h .ups;
+            downs = ap length d ∙ h .downs;
+            ups = ap length u ∙ h .ups;
             places = l;
             told = told;
           }

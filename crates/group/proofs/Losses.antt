@@ -38,5 +38,5 @@ module _ (e : ℤ) (n1 : List ℤ) (class : List ℕ) where
   unfolding leftBy step2All takenOff
   left-is = column-ext _ _ (length n1) (λ i l. ap (nearerBy (directionOf e) (at n1 i)) (loss-at i l))
 
-  pub lost : {n2 : List ℤ} → Bearable e n1 class → length n2 ≡ length n1 → Lost n1 (lossesOf e n1 class) n2
-  lost h l = record { small = h .classed .small; losses-places = losses-length; losses-small = losses-small h; places = l }
+  pub lost : Bearable e n1 class → Lost n1 (lossesOf e n1 class)
+  lost h = record { small = h .classed .small; losses-places = losses-length; losses-small = losses-small h }

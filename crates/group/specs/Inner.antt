@@ -70,12 +70,11 @@ pub record Bearable (e : ℤ) (n1 : List ℤ) (class : List ℕ) : Type 0 where
   pub classed : Classed n1 class
   pub borne : natAbs e ≤ sum (sizesOf (directionOf e) NotEnabled n1 class) + sum (sizesOf (directionOf e) Enabled n1 class)
 
--- a loss for each quantity, and a place for what is left of it
-pub record Lost (n1 : List ℤ) (losses : List ℕ) (n2 : List ℤ) : Type 0 where
+-- a loss for each quantity
+pub record Lost (n1 : List ℤ) (losses : List ℕ) : Type 0 where
   pub small : AllWithin 1000000 n1
   pub losses-places : length losses ≡ length n1
   pub losses-small : (i : ℕ) → getD losses i 0 ≤ 1000000
-  pub places : length n2 ≡ length n1
 
 -- a group of position p that was not refused, with a column for step 1
 pub record Judged (p : ℤ) (n0 stepDown stepUp : List ℤ) (class : List ℕ) (first : List ℤ) : Type 0 where

@@ -90,34 +90,33 @@ pub fn cut_all(
     Cut { band, s1, e }
 }
 
-// Steps 2 and 3 of every unit, and S3; and its reason. Step 2 brings a unit nearer to zero by what it loses. Its step-down margin gives way to n3, and whether its nomination is implicit, by 1 or 0, to its reason.
+// Steps 2 and 3 of every unit, and S3; and its reason. Step 2 brings a unit nearer to zero by what it loses. Its step-up margin gives way to n2, its step-down margin to n3, and whether its nomination is implicit, by 1 or 0, to its reason.
 pub fn steps_all(
     d: Direction,
     n0: &[i32],
     n1: &[i32],
     losses: &[u32],
-    n2: &mut [i32],
+    second: &mut [i32],
     third: &mut [i32],
-    step_up: &[i32],
     why: &mut [u32],
 ) -> i32
-    requires { ⌜ Lost (now n1) (now losses) (now n2) ⌝ }
-    requires { ⌜ Aligned (leftBy d (now n1) (now losses)) (now third) (now «step_up») (now third) × Explained (now why) (now n0) (now n1) (leftBy d (now n1) (now losses)) (now third) (now «step_up») ⌝ }
-    ensures { λ r. ⌜ (now (n2 .exit) ≡ leftBy d (now (n1 .entry)) (now (losses .entry)))
-        × (r ≡ sumZ (step3All (now (n2 .exit)) (now (third .entry)) (now («step_up» .entry))))
-        × (now (third .exit) ≡ step3All (now (n2 .exit)) (now (third .entry)) (now («step_up» .entry)))
-        × (now (why .exit) ≡ reasonsAll (now (why .entry)) (now (n0 .entry)) (now (n1 .entry)) (now (n2 .exit)) (now (third .exit)) (now (third .entry)) (now («step_up» .entry))) ⌝ }
+    requires { ⌜ Lost (now n1) (now losses) ⌝ }
+    requires { ⌜ Aligned (leftBy d (now n1) (now losses)) (now third) (now second) (now third) × Explained (now why) (now n0) (now n1) (leftBy d (now n1) (now losses)) (now third) (now second) ⌝ }
+    ensures { λ r. ⌜ (now (second .exit) ≡ leftBy d (now (n1 .entry)) (now (losses .entry)))
+        × (r ≡ sumZ (step3All (now (second .exit)) (now (third .entry)) (now (second .entry))))
+        × (now (third .exit) ≡ step3All (now (second .exit)) (now (third .entry)) (now (second .entry)))
+        × (now (why .exit) ≡ reasonsAll (now (why .entry)) (now (n0 .entry)) (now (n1 .entry)) (now (second .exit)) (now (third .exit)) (now (third .entry)) (now (second .entry))) ⌝ }
 {
     let mut s3 = 0;
     let mut i = 0;
     while i < n1.len() {
         let m = Margins {
             step_down: third[i],
-            step_up: step_up[i],
+            step_up: second[i],
         };
         let left = nearer(d, n1[i], losses[i]);
         let n3 = step3(left, m);
-        n2[i] = left;
+        second[i] = left;
         third[i] = n3;
         s3 += n3;
         why[i] = reason(why[i], n0[i], n1[i], left, n3, m);
@@ -154,7 +153,7 @@ fn copy(from: &[i32], to: &mut [i32])
     }
 }
 
-// The three steps of a group of position p that is not refused, by way of lent columns of zeros for what each unit loses and for its reason.
+// The three steps of a group of position p that is not refused, by way of lent columns of zeros for what each unit loses and for its reason. The margins are only lent to be read, so n2 and n3 begin as copies of them.
 fn judged_through(
     p: Position,
     n0: &[i32],
@@ -174,8 +173,9 @@ fn judged_through(
 {
     let cut = cut_all(p, n0, step_down, step_up, class, n1, losses);
     copy(step_down, n3);
+    copy(step_up, n2);
     let d = direction(cut.e);
-    let s3 = steps_all(d, n0, n1, losses, n2, n3, step_up, why);
+    let s3 = steps_all(d, n0, n1, losses, n2, n3, why);
     summed(p, cut, s3)
 }
 

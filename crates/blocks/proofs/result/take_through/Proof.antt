@@ -24,8 +24,8 @@ entry c = c .before .before .before .before .before .before .before .before .bef
 abbrev enough-before : tie.After-write-passed → tie.Else1
 enough-before c = c .before .before .before .before .before .before .before .before .before
 
-abbrev written : tie.After-step-down2 → tie.After-write-passed
-written c = c .before .before .before .before .before .before .before .before
+abbrev written : tie.After-step-up2 → tie.After-write-passed
+written c = c .before .before .before .before .before .before .before .before .before
 
 block-units-requires : tie.Need-block-units-requires
 block-units-requires c κs = search needs
@@ -133,7 +133,7 @@ same-length-17 c =
 same-length-18 : tie.Need-same-length-18
 same-length-18 c =
     let read = units (enough-before (written c) .before .before .before .before .before) in
-    read .block-units .kept .1 .1 .1 .1 .1 .1 .1 .1 .0
+    written c .write-passed .kept .1 .1 .1 .1 .1 .1 .1 .1 .1 .0 ∙ read .block-units .kept .1 .1 .1 .1 .1 .1 .1 .1 .0
 
 returns-3 : tie.Need-returns-3
 returns-3 c =

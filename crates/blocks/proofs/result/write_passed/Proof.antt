@@ -4,40 +4,44 @@ use borrow.Author.Needs.{needs}
 use Rattle.blocks.proofs.result.write_passed.Statement.{statement}
 use Rattle.blocks.proofs.result.write_passed.Tie as tie
 
--- what stood before step 1, and after it
-abbrev entry : tie.After-cut-all-arg3 → tie.Start
-entry c = c .before .before .before .before .before .before .before .before
+-- what stood before step 1, and after it; and what the rest left
+abbrev entry : tie.After-cut-all-arg4 → tie.Start
+entry c = c .before .before .before .before .before .before .before .before .before
 
-abbrev cut-before : tie.After-write-cut → tie.After-cut-all
-cut-before c = c .before .before .before .before .before .before .before .before .before
+abbrev cut-of : tie.After-write-rest → tie.After-cut-all
+cut-of c = c .before .before .before .before .before .before .before .before .before .before
+
+abbrev rest-of : tie.After-step-down → tie.After-write-rest
+rest-of c = c .before .before .before .before .before .before
 
 cut-all-requires : tie.Need-cut-all-requires
 cut-all-requires c κs =
     let start = entry c in
     may-cut (start .pre .0 .0) (start .pre .0 .1) (start .pre .1 .0 .0) (start .pre .1 .0 .1)
 
-write-cut-requires : tie.Need-write-cut-requires
-write-cut-requires c κs =
-    let cut = c .before .before .before .before .before .before .before .before in
+write-rest-requires : tie.Need-write-rest-requires
+write-rest-requires c κs =
+    let cut = c .before .before .before .before .before .before .before .before .before in
     let start = entry (cut .before) in
     cutting (start .pre .0 .0) (start .pre .0 .1) (cut .cut-all .ensures) (start .pre .1 .1)
 
 same-length : tie.Need-same-length
-same-length c = c .before .before .before .before .before .write-cut .kept .1 .1 .1 .0
+same-length c = rest-of c .write-rest .kept .1 .1 .1 .0
 
 same-length-2 : tie.Need-same-length-2
-same-length-2 c = c .before .before .before .before .before .write-cut .kept .1 .1 .1 .1 .0
+same-length-2 c = rest-of c .write-rest .kept .1 .1 .1 .1 .0
 
 same-length-3 : tie.Need-same-length-3
-same-length-3 c =
-    cut-before (c .before .before .before .before .before) .cut-all .kept .1 .1 .1 .1 .1 .0
+same-length-3 c = cut-of (rest-of c) .cut-all .kept .1 .1 .1 .1 .1 .0
 
 same-length-4 : tie.Need-same-length-4
-same-length-4 c =
-    cut-before (c .before .before .before .before .before) .cut-all .kept .1 .1 .1 .1 .1 .1 .0
+same-length-4 c = cut-of (rest-of c) .cut-all .kept .1 .1 .1 .1 .1 .1 .0
 
 same-length-5 : tie.Need-same-length-5
-same-length-5 c = c .before .before .before .before .before .write-cut .kept .1 .1 .1 .1 .1 .1 .1 .1 .0
+same-length-5 c = rest-of c .write-rest .kept .1 .1 .1 .1 .1 .1 .1 .1 .1 .0
+
+same-length-6 : tie.Need-same-length-6
+same-length-6 c = rest-of c .write-rest .kept .1 .1 .1 .1 .1 .1 .1 .1 .0
 
 returns : tie.Need-returns
 returns c = search needs
@@ -47,10 +51,11 @@ write-passed-spec =
     tie.close
     (tie.spec
     cut-all-requires
-    write-cut-requires
+    write-rest-requires
     same-length
     same-length-2
     same-length-3
     same-length-4
     same-length-5
+    same-length-6
     returns)

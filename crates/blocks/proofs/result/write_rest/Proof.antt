@@ -27,15 +27,15 @@ turned-of c = c .before .before .before .before
 left-is : (c : tie.After-direction) → let a = entry c .args in leftBy (c .direction .result) (now (a .n1)) (now (a .losses)) ≡ leftBy (directionOf (a .cut .e)) (now (a .n1)) (now (a .losses))
 left-is c =
     let a = entry c .args in
-    let d = c .direction .ensures ∙ ap directionOf (toZ-ofZ (e-fits (entry c .pre .0))) in
+    let d = c .direction .ensures ∙ ap directionOf (toZ-ofZ (e-fits (entry c .pre))) in
     ap (λ (x : Direction). leftBy x (now (a .n1)) (now (a .losses))) d
 
 steps-all-requires : tie.Need-steps-all-requires
 steps-all-requires c κs =
     let turned = c .before .before .before in
     let s = entry turned in
-    let w = s .pre .0 in
-    (losing w (s .pre .1), (aligned w (left-is turned), explained w (left-is turned)))
+    let w = s .pre in
+    (losing w, (aligned w (left-is turned), explained w (left-is turned)))
 
 -- what stood before the units were laid
 abbrev done-of : tie.After-lay-unit-results → tie.After-steps-all
@@ -51,19 +51,19 @@ lay-unit-results-requires : tie.Need-lay-unit-results-requires
 lay-unit-results-requires c κs =
     let done = c .before .before .before .before .before .before .before .before in
     let e = done .steps-all .ensures in
-    laying (entry (turned-of done) .pre .0) (second-is done) (e .1) (e .2) (e .3)
+    laying (entry (turned-of done) .pre) (second-is done) (e .1) (e .2) (e .3)
 
 summed-requires : tie.Need-summed-requires
 summed-requires c κs =
     let done = done-of (c .before .before .before) in
     let e = done .steps-all .ensures in
     let s3 : toZ w32 (ofZ w32 (done .steps-all .result)) ≡ done .steps-all .result = search needs in
-    summable (entry (turned-of done) .pre .0) (second-is done) (s3 ∙ e .1) (e .2)
+    summable (entry (turned-of done) .pre) (second-is done) (s3 ∙ e .1) (e .2)
 
 lay-group-result-requires : tie.Need-lay-group-result-requires
 lay-group-result-requires c κs =
     let laid = c .before .before .before .before in
-    let w = entry (turned-of (done-of laid)) .pre .0 in
+    let w = entry (turned-of (done-of laid)) .pre in
     (w .passed .long, omega (arith, laid .lay-unit-results .kept, w .enough))
 
 same-length : tie.Need-same-length
@@ -73,17 +73,17 @@ same-length c =
 same-length-2 : tie.Need-same-length-2
 same-length-2 c =
     let done = done-of (laid-of c) in
-    done .steps-all .kept .1 .1 .1 .1 .1 .1 .1 .0
+    done .steps-all .kept .1 .1 .1 .1 .1 .1 .0
 
 same-length-3 : tie.Need-same-length-3
 same-length-3 c =
     let done = done-of (laid-of c) in
-    done .steps-all .kept .1 .1 .1 .1 .1 .0
+    done .steps-all .kept .1 .1 .1 .1 .0
 
 same-length-4 : tie.Need-same-length-4
 same-length-4 c =
     let done = done-of (laid-of c) in
-    done .steps-all .kept .1 .1 .1 .1 .0
+    done .steps-all .kept .1 .1 .1 .1 .1 .0
 
 returns : tie.Need-returns
 returns c =
@@ -93,7 +93,7 @@ returns c =
     let done = done-of laid in
     let e = done .steps-all .ensures in
     let s3 : toZ w32 (ofZ w32 (done .steps-all .result)) ≡ done .steps-all .result = search needs in
-    written (entry (turned-of done) .pre .0) (second-is done) (s3 ∙ e .1) (e .2) (e .3) (sums .summed .ensures) (laid .lay-unit-results .ensures) (group .lay-group-result .ensures)
+    written (entry (turned-of done) .pre) (second-is done) (s3 ∙ e .1) (e .2) (e .3) (sums .summed .ensures) (laid .lay-unit-results .ensures) (group .lay-group-result .ensures)
 
 pub write-rest-spec : {M : Type 1} → statement M
 write-rest-spec =

@@ -1,9 +1,7 @@
 -- `judged_through` meets its contract: each part has what the one before leaves.
-use mathlib.Core.Path.{_≡_, sym, ap, _∙_}
+use mathlib.Core.Path.{_≡_, sym, ap, ap₂, _∙_}
 use borrow.Author.Needs.{needs}
 use denote.Ref.{now}
-use mathlib.Core.List.{List}
-use lib.IntN.{ℤ}
 use lib.ListN.{length}
 use mir.Syntax.{w32}
 use mir.Val.{SFits, toZ, ofZ}
@@ -19,15 +17,18 @@ use Rattle.group.proofs.Judging.{e-fits, cut-lost, cut-aligned, cut-exp
 use Rattle.group.proofs.judge.judged_through.Tie as tie
 use Rattle.group.proofs.judge.judged_through.Statement.{statement}
 
--- what stood before step 1; and where the direction is known, and where steps 2 and 3 are done, what step 1 left and the units lose
+-- what stood before step 1; where the direction is known, what step 1 left and the units lose, and the margins that were copied; and where steps 2 and 3 are done, the direction
 abbrev entry : tie.After-cut-all → tie.Start
 entry c = c .before .before .before .before .before .before
 
 abbrev cut-of : tie.After-direction → tie.After-cut-all
-cut-of c = c .before .before .before .before .before .before .before .before
+cut-of c = c .before .before .before .before .before .before .before .before .before .before .before
 
-abbrev copied-of : tie.After-direction → tie.After-copy
-copied-of c = c .before .before .before
+abbrev down-of : tie.After-direction → tie.After-copy
+down-of c = c .before .before .before .before .before .before
+
+abbrev up-of : tie.After-direction → tie.After-copy2
+up-of c = c .before .before .before
 
 abbrev turned-of : tie.After-steps-all → tie.After-direction
 turned-of c = c .before .before .before .before .before .before
@@ -39,6 +40,11 @@ copy-requires : tie.Need-copy-requires
 copy-requires c κs =
     let s = entry (c .before .before .before .before) in
     s .pre .1 .0 .1 ∙ sym (s .pre .0 .downs)
+
+copy-requires-2 : tie.Need-copy-requires-2
+copy-requires-2 c κs =
+    let s = entry (c .before .before .before .before .before .before .before) in
+    s .pre .1 .0 .0 ∙ sym (s .pre .0 .ups)
 
 direction-requires : tie.Need-direction-requires
 direction-requires c κs = search needs
@@ -57,22 +63,25 @@ steps-all-requires c κs =
     let cut = cut-of turned in
     let s = entry cut in
     let k = cut .cut-all .ensures in
-    let t = copied-of turned .copy .ensures in
+    let d = down-of turned .copy .ensures in
+    let u = up-of turned .copy2 .ensures in
     let w = s .pre .1 .1 .1 in
-    (cut-lost (s .pre .0) k (s .pre .1 .0 .0), (cut-aligned (s .pre .0) k (left-is turned) t, cut-explained (s .pre .0) k (left-is turned) t (ap length w ∙ column-length _ _) (rw w (zeros-small _))))
+    (cut-lost (s .pre .0) k, (cut-aligned (s .pre .0) k (left-is turned) d u, cut-explained (s .pre .0) k (left-is turned) d u (ap length w ∙ column-length _ _) (rw w (zeros-small _))))
 
--- n2, and S3 as the machine reads it back
+-- n2; n3, by the margins that were copied; and S3 as the machine reads it back
 second-is : (c : tie.After-steps-all) → let k = cut-of (turned-of c) .cut-all in
     c .steps-all .last .1 .1 .1 .1 .0 ≡ leftBy (directionOf (k .result .e)) (k .last .1 .1 .1 .1 .1 .0) (k .last .1 .1 .1 .1 .1 .1 .0)
 second-is c = c .steps-all .ensures .0 ∙ left-is (turned-of c)
 
-s3-is : (c : tie.After-steps-all) → let s = entry (cut-of (turned-of c)) in
-    toZ w32 (ofZ w32 (c .steps-all .result)) ≡ sumZ (step3All (c .steps-all .last .1 .1 .1 .1 .0) (now (s .args .step-down)) (now (s .args .step-up)))
+by-margins : (c : tie.After-steps-all) → let t = turned-of c in let a = entry (cut-of t) .args in let x2 = c .steps-all .last .1 .1 .1 .1 .0 in
+    step3All x2 (down-of t .copy .last .1 .0) (up-of t .copy2 .last .1 .0) ≡ step3All x2 (now (a .step-down)) (now (a .step-up))
+by-margins c = ap₂ (step3All (c .steps-all .last .1 .1 .1 .1 .0)) (down-of (turned-of c) .copy .ensures) (up-of (turned-of c) .copy2 .ensures)
+
+s3-is : (c : tie.After-steps-all) → let a = entry (cut-of (turned-of c)) .args in
+    toZ w32 (ofZ w32 (c .steps-all .result)) ≡ sumZ (step3All (c .steps-all .last .1 .1 .1 .1 .0) (now (a .step-down)) (now (a .step-up)))
 s3-is c =
-    let turned = turned-of c in
-    let up = now (entry (cut-of turned) .args .step-up) in
     let f : SFits w32 (c .steps-all .result) = record { sfits = c .steps-all .ok } in
-    toZ-ofZ f ∙ c .steps-all .ensures .1 ∙ ap (λ (l : List ℤ). sumZ (step3All (c .steps-all .last .1 .1 .1 .1 .0) l up)) (copied-of turned .copy .ensures)
+    toZ-ofZ f ∙ c .steps-all .ensures .1 ∙ ap sumZ (by-margins c)
 
 summed-requires : tie.Need-summed-requires
 summed-requires c κs =
@@ -102,11 +111,8 @@ same-length-5 c = search needs
 returns : tie.Need-returns
 returns c =
     let done = c .before .before .before .before .before in
-    let turned = turned-of done in
-    let cut = cut-of turned in
-    let s = entry cut in
-    cut-written (s .pre .0) (cut .cut-all .ensures) (second-is done) (s3-is done)
-    (done .steps-all .ensures .2 ∙ ap (λ (l : List ℤ). step3All (done .steps-all .last .1 .1 .1 .1 .0) l (now (s .args .step-up))) (copied-of turned .copy .ensures)) (c .summed .ensures)
+    let cut = cut-of (turned-of done) in
+    cut-written (entry cut .pre .0) (cut .cut-all .ensures) (second-is done) (s3-is done) (done .steps-all .ensures .2 ∙ by-margins done) (c .summed .ensures)
 
 pub judged-through-spec : {M : Type 1} → statement M
 judged-through-spec =
@@ -114,6 +120,7 @@ judged-through-spec =
     (tie.spec
     cut-all-requires
     copy-requires
+    copy-requires-2
     direction-requires
     steps-all-requires
     summed-requires
