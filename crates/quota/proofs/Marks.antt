@@ -4,7 +4,7 @@ use mathlib.Core.Path.{_≡_, sym, _∙_, ap, ap₂, subst₂}
 use mathlib.Core.Bool.{Bool, true, false, _&&_, _||_}
 use mathlib.Core.List.{List}
 use native.Mathlib.Omega.{arith}
-use native.Mathlib.Nat.{mul-le-mul-left, mul-le-mul-right, le-of-mul-le-mul-right, lt-of-mul-lt-mul-right}
+use native.Mathlib.Nat.{mul-le-mul-left, lt-of-mul-lt-mul-right}
 use native.Mathlib.Decide.{decLt}
 use lib.Dec.{ltb, eqb}
 use lib.IntN.{ℤ}
@@ -20,7 +20,8 @@ use Rattle.quota.specs.Quota.{whole, rest, ahead, before, rank, still, c
 use Rattle.quota.specs.Inner.{Asked, Own, Rated, Sharing, top, keyOf, markBy, mark, marksOf, Marked, above, Parts, dealtAt}
 use Rattle.quota.specs.declared.Ratio.{Ratio}
 use Rattle.quota.proofs.Fairness.{length-cuts, cuts-all}
-use Rattle.quota.proofs.Shares.{share, rest-lt, still-rests, dealt-rest}
+use Rattle.quota.proofs.Ratios.{share-le}
+use Rattle.quota.proofs.Shares.{rest-lt, rest-size, still-rests, dealt-rest}
 
 -- what a caller of the cut shows, by the ratio of C and T
 pub total-small : {s : List ℕ} {t c : ℕ} → Asked s t c → t ≤ 64000000
@@ -68,8 +69,8 @@ module _ {s : List ℕ} {r : Ratio} (h : Sharing s r) where
   abbrev c : ℕ
   c = r .c
 
-  pub le : c ≤ sum s
-  le = omega (arith, h .total, h .rated .less)
+  pub cut-within : c ≤ sum s
+  cut-within = omega (arith, h .total, h .rated .less)
 
   pub total-pos : 0 < sum s
   total-pos = omega (arith, h .total, h .rated .less)
@@ -83,9 +84,8 @@ module _ {s : List ℕ} {r : Ratio} (h : Sharing s r) where
   mark-at i l = column-at (mark s c) (length s) i 0 l
 
   whole-small : (i : ℕ) → whole s c i ≤ 1000000
-  whole-small i =
-      let w : whole s c i ≤ getD s i 0 = le-of-mul-le-mul-right {k = sum s} (omega (arith, share s c i, mul-le-mul-right (getD s i 0) le)) total-pos in
-      omega (arith, w, h .sized .small i)
+  unfolding whole
+  whole-small i = omega (arith, ap (λ (t : ℕ). c * getD s i 0 / t) (h .total), share-le (getD s i 0) (h .rated), h .sized .small i)
 
   -- fewer kWh are left than there are units
   still-fewer : still s c < length s
@@ -103,19 +103,19 @@ module _ {s : List ℕ} {r : Ratio} (h : Sharing s r) where
           lt-of-mul-lt-mul-right t
           (omega (
             arith,
-            still-rests s c total-pos le,
+            still-rests s c total-pos cut-within,
             sumTo-lt n (rest s c) (λ (_ : ℕ). t * bit true) (λ i _. omega (arith, rest-lt s c total-pos i)) 0 l (omega (arith, rest-lt s c total-pos 0)),
             sumTo-mul t n (λ (_ : ℕ). bit true),
             mul-le-mul-left t (count-all n (λ (_ : ℕ). true)),
           ))
       go (no l) = absurd (omega (arith, total-pos, sum-bound s 1000000 (h .sized .small)))
 
-  -- every mark lies below what the widest remainder would give
-  marks-below : (k : ℕ) → getD (marksOf s c) k 0 < top + r .t * 64 + 64
+  -- every mark lies below what a remainder of T would give
+  marks-below : (k : ℕ) → getD (marksOf s c) k 0 < top + r .t * 64
   unfolding marksOf
   marks-below k = go (decLt k (length s)) (decLt 0 (rest s c k))
     where
-      go : Dec (k < length s) → Dec (0 < rest s c k) → getD (marksOf s c) k 0 < top + r .t * 64 + 64
+      go : Dec (k < length s) → Dec (0 < rest s c k) → getD (marksOf s c) k 0 < top + r .t * 64
       go (no l) _ = omega (arith, column-past (mark s c) (length s) k 0 (omega arith))
       go (yes l) (yes p) = omega (arith, mark-at k l, mark-key (whole s c k) (rest s c k) k p, rest-lt s c total-pos k, h .total)
       go (yes l) (no p) = omega (arith, mark-at k l, mark-whole (whole s c k) (rest s c k) k (omega arith), whole-small k)
@@ -153,19 +153,10 @@ module _ {s : List ℕ} {r : Ratio} (h : Sharing s r) where
             le-ltb (keyOf (rest s c i) i) (mark s c j) (omega (arith, mark-whole (whole s c j) (rest s c j) j z, whole-small j))
             ∙ sym (not-ahead (rest s c i) (rest s c j) i j p z)
 
-  -- a unit with a remainder has a size, and n1 tells its whole part again
-  size-pos : (i : ℕ) → 0 < rest s c i → 0 < getD s i 0
-  size-pos i p = go (decLt 0 (getD s i 0))
-    where
-      go : Dec (0 < getD s i 0) → 0 < getD s i 0
-      go (yes q) = q
-      go (no q) =
-          let z : getD s i 0 ≡ 0 = omega arith in
-          absurd (omega (arith, share s c i, ap (λ (y : ℕ). c * y) z))
-
+  -- of a unit with a remainder n1 tells the whole part again
   again : {d : Direction} {n1 : List ℤ} → Own d n1 s → (i : ℕ) → 0 < rest s c i → c * sizeIn d (at n1 i) / r .t ≡ whole s c i
   unfolding whole
-  again own i p = ap₂ (λ (y z : ℕ). c * y / z) (own .own i (size-pos i p)) (h .total)
+  again own i p = ap₂ (λ (y z : ℕ). c * y / z) (own .own i (rest-size s c i p)) (h .total)
 
   -- what is dealt where x parts the keys is the rule's cut
   dealt-cut : {d : Direction} {n1 : List ℤ} (x : ℕ) → Own d n1 s → Parts (marksOf s c) (still s c) x → (i : ℕ) → i < length s
@@ -189,7 +180,7 @@ module _ {s : List ℕ} {r : Ratio} (h : Sharing s r) where
           rw (le-ltb top (mark s c i) (omega (arith, e, whole-small i))) (omega (arith, e, ap bit (le-ltb place (still s c) (late (decLt place (still s c))))))
         where
           late : Dec (place < still s c) → still s c ≤ place
-          late (yes q) = absurd (p (dealt-rest s c total-pos le i q))
+          late (yes q) = absurd (p (dealt-rest s c total-pos cut-within i q))
           late (no q) = omega arith
 
   -- with nothing still to cut no unit has a remainder, and the marks are the cuts
@@ -209,7 +200,7 @@ module _ {s : List ℕ} {r : Ratio} (h : Sharing s r) where
             arith,
             sumTo-one i (rest s c),
             sumTo-mono (i + 1) (length s) (rest s c) (omega arith),
-            still-rests s c total-pos le,
+            still-rests s c total-pos cut-within,
             ap (λ (x : ℕ). x * sum s) z,
           )
 

@@ -2,23 +2,11 @@
 use Prim.Native.Nat.{ℕ, _+_, _-_, _*_, _/_, _%_, _≤_, _<_}
 use mathlib.Core.Path.{_≡_, ap}
 use native.Mathlib.Omega.{arith}
-use native.Mathlib.Nat.{div-add-mod', mod-lt, lt-of-mul-lt-mul-right, le-of-mul-le-mul-right, mul-le-mul, mul-le-mul-left, mul-le-mul-right}
-use lib.IntN.{ℤ, pos, natAbs}
-use lib.Signed.{ltZ}
-use Rattle.numbers.specs.Range.{Within}
-use Rattle.numbers.proofs.Choices.{pick-le}
-use Rattle.terms.specs.Quantities.{sizeIn}
-use Rattle.terms.specs.declared.quantity.Direction.{Direction}
-use Rattle.terms.specs.declared.quantity.Direction.the-variants.{Injections, Withdrawals}
+use native.Mathlib.Nat.{div-add-mod', mod-lt, lt-of-mul-lt-mul-right, le-of-mul-le-mul-right, mul-le-mul, mul-le-mul-left, mul-le-mul-right, div-le-of-le-mul}
 use Rattle.quota.specs.Inner.{one, Rated}
 use Rattle.quota.specs.declared.Ratio.{Ratio}
 
--- a size in a direction is no larger than the number
-pub size-within : (d : Direction) (n : ℤ) → Within 1000000 n → sizeIn d n ≤ 1000000
-size-within Injections n h = omega (arith, h .size, pick-le (ltZ (pos 0) n) (natAbs n))
-size-within Withdrawals n h = omega (arith, h .size, pick-le (ltZ n (pos 0)) (natAbs n))
-
--- a number of kWh below one kWh is told in less than all the parts
+-- what each kWh bears is less than a kWh, so that it fits 32 bits
 pub each-fits : {c t : ℕ} → c < t → c * one / t < one
 each-fits {c} {t} l = lt-of-mul-lt-mul-right t (omega (arith, div-add-mod' (c * one) t))
 
@@ -32,11 +20,17 @@ apart p t w r e l =
     let q : w ≡ p / t = omega arith in
     (q, omega (arith, d, e, ap (λ (x : ℕ). x * t) q))
 
--- a remainder is below T
+-- a remainder is small, as T is
 pub rest-small : {r : Ratio} {x : ℕ} (n : ℕ) → Rated r → x ≡ r .c * n % r .t → x ≤ 64000000
 rest-small {r} n h e =
     let t-pos : 0 < r .t = omega (arith, h .less) in
     omega (arith, e, mod-lt (r .c * n) t-pos, h .few)
+
+-- no share is larger than its size
+pub share-le : {r : Ratio} (n : ℕ) → Rated r → r .c * n / r .t ≤ n
+share-le {r} n h =
+    let c-le : r .c ≤ r .t = omega (arith, h .less) in
+    div-le-of-le-mul (r .t) (mul-le-mul-right n c-le)
 
 module _ {r : Ratio} {n : ℕ} (h : Rated r) (small : n ≤ 1000000) where
   -- both products fit 64 bits

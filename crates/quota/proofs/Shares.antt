@@ -48,14 +48,17 @@ module _ (s : List ℕ) (c : ℕ) where
       go (yes l) = l
       go (no l) = absurd (omega (arith, List·getD-eq-default s 0 {n = i} (omega arith)))
 
-  rest-inside : (i : ℕ) → 0 < rest s c i → i < length s
-  rest-inside i h = go (decLt 0 (getD s i 0))
+  pub rest-size : (i : ℕ) → 0 < rest s c i → 0 < getD s i 0
+  rest-size i h = go (decLt 0 (getD s i 0))
     where
-      go : Dec (0 < getD s i 0) → i < length s
-      go (yes l) = size-inside i l
+      go : Dec (0 < getD s i 0) → 0 < getD s i 0
+      go (yes l) = l
       go (no l) =
           let z : getD s i 0 ≡ 0 = omega arith in
           absurd (omega (arith, share i, ap (λ (x : ℕ). c * x) z))
+
+  rest-inside : (i : ℕ) → 0 < rest s c i → i < length s
+  rest-inside i h = size-inside i (rest-size i h)
 
   module _ (pos : 0 < sum s) (le : c ≤ sum s) where
     pub wholes-le : sumTo (length s) (whole s c) ≤ c

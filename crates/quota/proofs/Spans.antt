@@ -1,4 +1,4 @@
--- A span that is made narrower by one count, and what it decides in the end: the more marks are above a number the smaller it is, and a mark is above what it is counted in.
+-- A span that is made narrower by one count, and what it decides in the end: above a larger number are no more marks, and above a mark fewer than above any number below it.
 use Prim.Native.Nat.{ℕ, _+_, _*_, _≤_, _<_}
 use mathlib.Core.Path.{_≡_, sym, subst₂}
 use mathlib.Core.Bool.{Bool, true, false}
@@ -77,7 +77,7 @@ pub record Decided (l : List ℕ) (left most low high j : ℕ) : Type 0 where
   pub done : (k : ℕ) → k < j → (getD l k 0 ≤ low) ⊎ (high ≤ getD l k 0)
 
 -- the whole span, in which nothing is decided
-pub at-first : {l : List ℕ} {left t : ℕ} → Marked l left t → Spans l left top (top + t * 64 + 64)
+pub at-first : {l : List ℕ} {left t : ℕ} → Marked l left t → Spans l left top (top + t * 64)
 at-first h =
     record { order = omega arith; lows = λ k _ a b. absurd (omega arith); highs = λ k _ m. absurd (omega (arith, h .below k)) }
 
@@ -100,11 +100,11 @@ pub decided-end : {l : List ℕ} {left most low high j : ℕ} → Decided l left
 decided-end {l} {left} {most} {low} {high} {j} h end k kl a = ⊎-elim under over side
   where
     side : (getD l k 0 ≤ low) ⊎ (high ≤ getD l k 0)
-    side = ⊎-elim (λ e. h .done k (omega arith)) (λ e. go (decLt low (getD l k 0))) end
+    side = ⊎-elim (λ e. h .done k (omega arith)) (λ e. go e (decLt low (getD l k 0))) end
       where
-        go : Dec (low < getD l k 0) → (getD l k 0 ≤ low) ⊎ (high ≤ getD l k 0)
-        go (yes b) = ⊎-elim (λ e. h .done k (omega arith)) (λ e. inr (omega arith)) end
-        go (no b) = inl (omega arith)
+        go : high ≤ low + 1 → Dec (low < getD l k 0) → (getD l k 0 ≤ low) ⊎ (high ≤ getD l k 0)
+        go e (yes b) = inr (omega arith)
+        go e (no b) = inl (omega arith)
 
     under : getD l k 0 ≤ low → ltb low (getD l k 0) ≡ ltb (above l (getD l k 0)) left
     under m = rw (le-ltb low (getD l k 0) m, le-ltb (above l (getD l k 0)) left (h .spans .lows k kl a m))

@@ -1,4 +1,4 @@
--- Each turn of `marks_into` takes off what is left to take off: the whole parts so far and what is left make up C.
+-- Each turn of `marks_into` takes off no more than is left: the whole parts so far and what is left make up C.
 use Prim.Native.Nat.{ℕ, _+_, _-_, _*_, _/_, _%_, _≤_, _<_}
 use mathlib.Core.Path.{_≡_, refl, _∙_, ap, ap₂}
 use mathlib.Core.List.{List}
@@ -11,7 +11,7 @@ use Rattle.quota.specs.Quota.{whole, rest, still}
 use Rattle.quota.specs.Inner.{Sharing, markBy, mark, marksOf}
 use Rattle.quota.specs.declared.Ratio.{Ratio}
 use Rattle.quota.proofs.Shares.{wholes-le}
-use Rattle.quota.proofs.Marks.{le, total-pos}
+use Rattle.quota.proofs.Marks.{cut-within, total-pos}
 
 -- after i turns: the marks of i units before the sizes of the others, and what is left of C
 pub record Marking (s : List ℕ) (c : ℕ) (sizes : List ℕ) (left i : ℕ) : Type 0 where
@@ -43,7 +43,7 @@ module _ {s sizes : List ℕ} {r : Ratio} {left i : ℕ} (a : Sharing s r) (h : 
       -- no more is taken off than is left
       pub whole-left : w ≤ left
       whole-left =
-          omega (arith, h .taken, w-whole, sumTo-one i (whole s c), sumTo-mono (i + 1) (length s) (whole s c) (omega arith), wholes-le s c (total-pos a) (le a))
+          omega (arith, h .taken, w-whole, sumTo-one i (whole s c), sumTo-mono (i + 1) (length s) (whole s c) (omega arith), wholes-le s c (total-pos a) (cut-within a))
 
       pub marking-turn : Marking s c (set sizes i (markBy w x i)) (left - w) (i + 1)
       marking-turn =

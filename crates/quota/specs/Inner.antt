@@ -30,10 +30,11 @@ pub record Own (d : Direction) (n1 : List ℤ) (s : List ℕ) : Type 0 where
   pub places : length n1 ≡ length s
   pub own : (i : ℕ) → 0 < getD s i 0 → sizeIn d (at n1 i) ≡ getD s i 0
 
--- what each kWh bears is told in parts of it, rounded down
+-- the parts of one kWh
 abbrev pub one : ℕ
 one = 4294967296
 
+-- C is below T, and what each kWh bears is C / T in those parts, rounded down
 pub record Rated (r : Ratio) : Type 0 where
   pub less : r .c < r .t
   pub few : r .t ≤ 64000000
@@ -63,18 +64,18 @@ mark s c i = markBy (whole s c i) (rest s c i) i
 unfoldable pub marksOf : List ℕ → ℕ → List ℕ
 marksOf s c = column (length s) (mark s c)
 
--- at most 64 marks of a total t, and more than kWh are left
+-- at most 64 marks of a total t, more than kWh are left, and none so large as a remainder of t would give
 pub record Marked (l : List ℕ) (left t : ℕ) : Type 0 where
   pub few : length l ≤ 64
   pub fewer : left < length l
   pub small : t ≤ 64000000
-  pub below : (k : ℕ) → getD l k 0 < top + t * 64 + 64
+  pub below : (k : ℕ) → getD l k 0 < top + t * 64
 
 -- how many entries are above x
 unfoldable pub above : List ℕ → ℕ → ℕ
 above l x = count (length l) (λ (j : ℕ). ltb x (getD l j 0))
 
--- of the keys l those up to low have at least so many above them as kWh are left, and those from high on fewer
+-- of the marks l the keys up to low have at least as many above them as kWh are left, and those from high on fewer
 pub record Spans (l : List ℕ) (left low high : ℕ) : Type 0 where
   pub order : low ≤ high
   pub lows : (k : ℕ) → k < length l → top < getD l k 0 → getD l k 0 ≤ low → left ≤ above l (getD l k 0)
@@ -91,6 +92,6 @@ pub record Narrowed (l : List ℕ) (left low high x low′ high′ : ℕ) : Type
 abbrev pub Parts : List ℕ → ℕ → ℕ → Type 0
 Parts l left x = (k : ℕ) → k < length l → top < getD l k 0 → ltb x (getD l k 0) ≡ ltb (above l (getD l k 0)) left
 
--- what a unit of n kWh in the direction loses whose mark is m: its mark, or its whole part again and one kWh more where the mark is above x
+-- what a unit of n kWh in the direction loses whose mark is m: its mark where that is a whole part, else its whole part again and one kWh more where the mark is above x
 unfoldable pub dealtAt : Direction → ℕ → ℕ → ℕ → ℤ → ℕ → ℕ
 dealtAt d t c x n m = pick (ltb top m) (c * sizeIn d n / t + bit (ltb x m)) m

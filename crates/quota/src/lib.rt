@@ -8,7 +8,7 @@ ghost use Rattle.quota.specs.Quota.{still, cutsOf};
 ghost use Rattle.quota.specs.Inner.{Asked, Own, Rated, Sharing, top, Marked, markBy, marksOf, above, Spans, Narrowed, Parts, dealtAt};
 use terms::quantity::Direction;
 
-// C kWh of T, which is more, and what each kWh bears of them: C / T in parts of ONE, rounded down.
+// C kWh of T, which is more, and what each kWh bears of them: C / T in parts of which a kWh has ONE, 2³², rounded down.
 struct Ratio {
     c: u32,
     t: u32,
@@ -52,7 +52,7 @@ fn share_of(ratio: Ratio, n: u32) -> Share
     }
 }
 
-// No whole part is above it, and every key is.
+// No whole part is above it, and every key is: a remainder and a place in one number, the larger of which comes first.
 const TOP: u32 = 1048576;
 
 // What stands for a unit of this share and place: its key where it has a remainder, else its whole part.
@@ -132,14 +132,14 @@ fn narrowed(marks: &[u32], left: u32, span: Span, x: u32) -> Span
     }
 }
 
-// The first numbers tried: the middle, and the mark that is the right one where all remainders are equal.
+// The first numbers tried: the middle, and the mark that is the right one where all units have one remainder.
 fn guessed(marks: &[u32], left: u32, t: u32) -> Span
     requires { ⌜ Marked (now marks) left t ⌝ }
-    ensures { λ r. ⌜ Spans (now (marks .entry)) left (r .low) (r .high) × (r .high ≤ top + t * 64 + 64) ⌝ }
+    ensures { λ r. ⌜ Spans (now (marks .entry)) left (r .low) (r .high) × (r .high ≤ top + t * 64) ⌝ }
 {
     let open = Span {
         low: TOP,
-        high: TOP + t * 64 + 64,
+        high: TOP + t * 64,
     };
     let span = narrowed(marks, left, open, TOP + t * 32);
     narrowed(marks, left, span, marks[left as usize])
@@ -159,7 +159,7 @@ fn bound(marks: &[u32], left: u32, t: u32) -> u32
     span.low
 }
 
-// What a unit loses: its mark where that is whole, else its whole part, worked out again, and a kWh more where the mark is above x.
+// What a unit loses: its mark where that is a whole part, else its whole part, worked out again, and a kWh more where the mark is above x. The share comes before the test, so that the loop has no branch.
 fn dealt_to(ratio: Ratio, d: Direction, x: u32, n1: i32, mark: u32) -> u32
     requires { ⌜ Rated ratio × Within 1000000 n1 ⌝ }
     ensures { λ r. ⌜ r ≡ dealtAt d (ratio .t) (ratio .c) x n1 mark ⌝ }
@@ -183,7 +183,7 @@ fn deal(ratio: Ratio, d: Direction, x: u32, n1: &[i32], cuts: &mut [u32])
     }
 }
 
-// The pro-quota cut of c kWh over the sizes, whose total is t, with no column beside them: each size gives way to its unit's cut. Where all is cut, the sizes are the cuts.
+// The pro-quota cut of c kWh over the sizes, whose total is t: each size gives way to its unit's cut, by way of its mark. What a size was is then told by n1 in the direction d, and no column beside them is needed. Where all is cut, the sizes are the cuts.
 pub fn cut(sizes: &mut [u32], t: u32, c: u32, d: Direction, n1: &[i32])
     requires { ⌜ Asked (now sizes) t c × Own d (now n1) (now sizes) × AllWithin 1000000 (now n1) ⌝ }
     ensures { λ _. ⌜ now (sizes .exit) ≡ cutsOf (now (sizes .entry)) c ⌝ }

@@ -1,4 +1,4 @@
--- `above` meets its contract: after j turns r counts those of the first j keys that are above x.
+-- `above` meets its contract: after j turns r counts those of the first j marks that are above x.
 use Prim.Native.Nat.{ℕ, _-_, _≤_}
 use mathlib.Core.Path.{_≡_, ap}
 use native.Mathlib.Omega.{arith}
@@ -12,10 +12,10 @@ use Rattle.quota.proofs.above.Statement.{statement}
 use Rattle.quota.proofs.above.Tie as tie
 
 abbrev Inv-loop : tie.InvT-loop
-Inv-loop keys x r₀ j₀ r j = (j ≤ length keys) × (r ≡ count j (λ (k : ℕ). ltb x (getD keys k 0))) × (r ≤ j)
+Inv-loop marks x r₀ j₀ r j = (j ≤ length marks) × (r ≡ count j (λ (k : ℕ). ltb x (getD marks k 0))) × (r ≤ j)
 
 abbrev μ-loop : tie.MeasureT-loop
-μ-loop keys x r₀ j₀ r j = length keys - j
+μ-loop marks x r₀ j₀ r j = length marks - j
 
 loop-holds : tie.Need-loop-holds Inv-loop μ-loop
 unfolding count sumTo

@@ -11,7 +11,7 @@ use Rattle.quota.proofs.bound.Statement.{statement}
 use Rattle.quota.proofs.bound.Tie as tie
 
 abbrev Inv-loop : tie.InvT-loop
-Inv-loop marks left t span₀ j₀ span j = Decided marks left (top + t * 64 + 64) (span .low) (span .high) j
+Inv-loop marks left t span₀ j₀ span j = Decided marks left (top + t * 64) (span .low) (span .high) j
 
 abbrev μ-loop : tie.MeasureT-loop
 μ-loop marks left t span₀ j₀ span j = length marks - j

@@ -2,16 +2,16 @@
 use Prim.Native.Nat.{ℕ, _+_, _*_, _/_, _≤_}
 use mathlib.Core.Path.{_≡_, ap, _∙_}
 use native.Mathlib.Omega.{arith}
-use native.Mathlib.Nat.{mul-le-mul-right, div-le-of-le-mul}
 use lib.Dec.{ltb}
 use mir.Facts.{toZ-ofZ}
 use Rattle.numbers.specs.Sum.{bit}
 use Rattle.numbers.proofs.Sums.{bit-one}
 use Rattle.terms.specs.Quantities.{sizeIn}
+use Rattle.terms.proofs.Sizes.{size-within}
 use borrow.Author.Tests.{lt-ltb, le-ltb}
 use borrow.Author.Needs.{needs}
 use Rattle.quota.specs.Inner.{dealtAt}
-use Rattle.quota.proofs.Ratios.{size-within}
+use Rattle.quota.proofs.Ratios.{share-le}
 use Rattle.quota.proofs.dealt_to.Statement.{statement}
 use Rattle.quota.proofs.dealt_to.Tie as tie
 
@@ -35,19 +35,12 @@ returns c = rw (le-ltb _ _ (c .if1 .taken))
 cast-result : tie.Need-cast-result
 cast-result c = search needs
 
--- no share is larger than its size
-whole-small : (c : tie.After-share-of) → c .share-of .result .whole ≤ 1000000
-whole-small c =
-    let start = c .before .before in
-    let r = start .args .ratio in
-    let l : r .c ≤ r .t = omega (arith, start .pre .0 .less) in
-    omega (arith, c .share-of .ensures .0, small (c .before), div-le-of-le-mul (r .t) (mul-le-mul-right (c .before .size .result) l))
-
 add-result : tie.Need-add-result
 add-result c =
     let share = c .before .before in
-    let a = share .before .before .args in
-    omega (arith, whole-small share, bit-one (ltb (a .x) (a .mark)))
+    let start = share .before .before in
+    let a = start .args in
+    omega (arith, share .share-of .ensures .0, share-le (share .before .size .result) (start .pre .0), small (share .before), bit-one (ltb (a .x) (a .mark)))
 
 returns-2 : tie.Need-returns-2
 unfolding dealtAt

@@ -1,4 +1,4 @@
--- `guessed` meets its contract: at first the span holds every mark, and what narrows it does so whatever number is tried.
+-- `guessed` meets its contract: at first the span holds every key, and it is narrowed whatever number is tried.
 use borrow.Author.Needs.{needs}
 use Rattle.quota.proofs.Spans.{at-first}
 use Rattle.quota.proofs.guessed.Statement.{statement}
