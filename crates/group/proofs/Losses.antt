@@ -7,12 +7,11 @@ use native.Mathlib.Decide.{decLt}
 use lib.IntN.{ℤ}
 use lib.ListN.{length, getD}
 use Rattle.numbers.specs.Column.{column, at}
-use Rattle.numbers.proofs.Integers.{zarith}
 use Rattle.numbers.proofs.Columns.{column-length, column-at, column-past, column-ext}
+use Rattle.terms.proofs.Sizes.{size-within}
 use Rattle.group.specs.Steps.{directionOf, nearerBy}
 use Rattle.group.specs.Group.{takenOff, step2All}
 use Rattle.group.specs.Inner.{lossAt, lossesOf, leftBy, Bearable, Lost}
-use Rattle.group.proofs.Sides.{size-abs}
 use Rattle.group.proofs.Cuts.{loss-within}
 
 module _ (e : ℤ) (n1 : List ℤ) (class : List ℕ) where
@@ -31,7 +30,7 @@ module _ (e : ℤ) (n1 : List ℤ) (class : List ℕ) where
     where
       go : Dec (i < length n1) → getD (lossesOf e n1 class) i 0 ≤ 1000000
       go (yes l) =
-          omega (zarith, loss-at i l, loss-within e n1 class (h .borne) (h .classed) i, size-abs (directionOf e) (at n1 i), h .classed .small i)
+          omega (arith, loss-at i l, loss-within e n1 class (h .borne) (h .classed) i, size-within (directionOf e) (at n1 i) (h .classed .small i))
       go (no l) = omega (arith, column-past (lossAt e n1 class) (length n1) i 0 (omega arith))
 
   pub left-is : leftBy (directionOf e) n1 (lossesOf e n1 class) ≡ step2All e n1 class

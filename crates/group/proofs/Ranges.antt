@@ -12,6 +12,7 @@ use Rattle.numbers.specs.Choice.{pick}
 use Rattle.numbers.specs.Column.{at, AllWithin}
 use Rattle.numbers.proofs.Integers.{zarith}
 use Rattle.numbers.proofs.Columns.{column-length, column-within}
+use Rattle.terms.proofs.Sizes.{size-within}
 use Rattle.terms.specs.declared.quantity.Standing.{Standing}
 use Rattle.terms.specs.declared.quantity.Direction.{Direction}
 use Rattle.quota.specs.Inner.{Sized}
@@ -19,7 +20,7 @@ use Rattle.group.specs.Steps.{directionOf, nearerBy, step1Of, step3Of}
 use Rattle.terms.specs.declared.quantity.Margins.{Margins}
 use Rattle.group.specs.Group.{marginsAt, sizeOf, sizesOf, takenOff, step1All, step2All, step3All}
 use Rattle.group.specs.Inner.{Aligned, Classed, lossAt}
-use Rattle.group.proofs.Sides.{sizes-length, size-le, size-at, size-abs}
+use Rattle.group.proofs.Sides.{sizes-length, size-le, size-at}
 use Rattle.group.proofs.Bearing.{Bears}
 use Rattle.group.proofs.Cuts.{nearer, loss-within}
 
@@ -69,7 +70,7 @@ module _ {n stepDown stepUp out : List ℤ} (h : Aligned n stepDown stepUp out) 
 
 module _ {n1 : List ℤ} {class : List ℕ} (h : Classed n1 class) where
   pub size-small : (d : Direction) (k : Standing) (i : ℕ) → sizeOf d k (getD class i 0) (at n1 i) ≤ 1000000
-  size-small d k i = omega (zarith, size-le d k (getD class i 0) (at n1 i), size-abs d (at n1 i), h .small i)
+  size-small d k i = omega (arith, size-le d k (getD class i 0) (at n1 i), size-within d (at n1 i) (h .small i))
 
   pub sizes-sized : (d : Direction) (k : Standing) → Sized (sizesOf d k n1 class)
   sizes-sized d k =

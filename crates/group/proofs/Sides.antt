@@ -33,10 +33,6 @@ size-in Injections z =
 size-in Withdrawals z =
     pick-ind (ltZ z (pos 0)) (natAbs z) 0 (λ x. x ≡ nn z) (λ e. omega (zarith, abs-z z, one-side z)) (λ e. omega (zarith, one-side z))
 
-pub size-abs : (d : Direction) (z : ℤ) → sizeIn d z ≤ pp z + nn z
-size-abs Injections z = omega (arith, size-in Injections z)
-size-abs Withdrawals z = omega (arith, size-in Withdrawals z)
-
 pub no-size : (d : Direction) → sizeIn d (pos 0) ≡ 0
 no-size Injections = refl
 no-size Withdrawals = refl

@@ -1,4 +1,4 @@
--- Laws of replies and refusals.
+-- Laws of replies, refusals and quantities.
 pub mod Replies
 pub mod Passing
 pub mod FirstRefused
@@ -6,3 +6,4 @@ pub mod Scan
 pub mod Same
 pub mod Numbers
 pub mod Considered
+pub mod Sizes
