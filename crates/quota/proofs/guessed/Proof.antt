@@ -10,14 +10,11 @@ mul-narrowed c = search needs
 add-narrowed : tie.Need-add-narrowed
 add-narrowed c = search needs
 
-add-narrowed-2 : tie.Need-add-narrowed-2
-add-narrowed-2 c = search needs
-
 mul-narrowed-2 : tie.Need-mul-narrowed-2
 mul-narrowed-2 c = search needs
 
-add-narrowed-3 : tie.Need-add-narrowed-3
-add-narrowed-3 c = search needs
+add-narrowed-2 : tie.Need-add-narrowed-2
+add-narrowed-2 c = search needs
 
 narrowed-requires : tie.Need-narrowed-requires
 narrowed-requires c κs =
@@ -42,9 +39,8 @@ guessed-spec =
     (tie.spec
     mul-narrowed
     add-narrowed
-    add-narrowed-2
     mul-narrowed-2
-    add-narrowed-3
+    add-narrowed-2
     narrowed-requires
     mul-narrowed-3
     shared-slice-read-narrowed
