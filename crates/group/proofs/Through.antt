@@ -1,5 +1,5 @@
 -- Step 2 as the code takes it: those not enabled share out the excess or, where they lose all, those enabled share out the rest of it, and that is the rule.
-use Prim.Native.Nat.{ℕ, _-_, _≤_, min}
+use Prim.Native.Nat.{ℕ, _-_, _≤_, _<_, min}
 use mathlib.Core.Path.{_≡_, refl, sym, ap, _∙_}
 use mathlib.Core.Bool.{Bool, true, false}
 use mathlib.Core.List.{List}
@@ -14,18 +14,30 @@ use Rattle.numbers.specs.Sum.{sum}
 use Rattle.numbers.proofs.Choices.{pick-ind}
 use Rattle.numbers.proofs.Columns.{column-ext, column-self}
 use Rattle.terms.specs.Quantities.{standing, sizeIn}
+use Rattle.terms.specs.declared.quantity.Standing.{Standing}
 use Rattle.terms.specs.declared.quantity.Standing.the-variants.{NotEnabled, Enabled}
 use Rattle.terms.specs.declared.quantity.Direction.{Direction}
 use Rattle.quota.specs.Quota.{cutsOf}
-use Rattle.quota.specs.Inner.{Asked}
+use Rattle.quota.specs.Inner.{Asked, Own}
 use Rattle.quota.proofs.Fairness.{length-cuts}
 use Rattle.group.specs.Steps.{directionOf}
-use Rattle.group.specs.Group.{sizesOf, shareOf, cutsFor}
+use Rattle.group.specs.Group.{sizeOf, sizesOf, shareOf, cutsFor}
 use Rattle.group.specs.Inner.{Bearable, SharedOut, lossOf, lossAt, lossesOf}
-use Rattle.group.proofs.Sides.{sizes-length, size-of, size-not}
+use Rattle.group.proofs.Sides.{sizes-length, size-at, size-of, size-not}
 use Rattle.group.proofs.Cuts.{all-cut, cut-within, loss-of}
 use Rattle.group.proofs.Ranges.{sizes-sized}
 use Rattle.group.proofs.Uncut.{none-at}
+
+-- the size of a unit that bears a part is the one that n1 tells
+sizes-own : (d : Direction) (k : Standing) (n1 : List ℤ) (class : List ℕ) → Own d n1 (sizesOf d k n1 class)
+unfolding sizeOf
+sizes-own d k n1 class =
+    record {
+      places = sym (sizes-length d k n1 class);
+      own = λ i p.
+          pick-ind (standing k (getD class i 0)) (sizeIn d (at n1 i)) 0 (λ (x : ℕ). 0 < x → sizeIn d (at n1 i) ≡ x)
+          (λ _ _. refl) (λ _ q. absurd (omega arith)) (omega (arith, size-at d k n1 class i)) ∙ sym (size-at d k n1 class i);
+    }
 
 module _ {e : ℤ} {n1 : List ℤ} {class : List ℕ} (h : Bearable e n1 class) where
   -- the sizes of those that bear a part, and the total of those not enabled
@@ -85,6 +97,9 @@ module _ {e : ℤ} {n1 : List ℤ} {class : List ℕ} (h : Bearable e n1 class) 
           total = refl;
           within = part-borne all whole-is;
         })
+
+    pub through-own : Own d n1 sizes
+    through-own = rw (s .borne) (sizes-own d (pick all Enabled NotEnabled) n1 class)
 
     module _ {cuts : List ℕ} (cut : cuts ≡ cutsOf sizes part) where
       cuts-are : cuts ≡ cutsOf (bearers all) (natAbs e - pick all first 0)

@@ -93,7 +93,7 @@ fn losses_into(e: i32, n1: &[i32], class: &[u8], losses: &mut [u32])
 {
     let d = direction(e);
     let shared = share_out(d, magnitude(e), n1, class, losses);
-    quota::cut(losses, shared.t, shared.c);
+    quota::cut(losses, shared.t, shared.c, d, n1);
     if shared.all {
         lose_all(d, n1, class, losses);
     }

@@ -1,7 +1,9 @@
 -- Laws of the pro-quota cut.
 pub mod Counting
 pub mod Order
-pub mod Ranks
 pub mod Shares
 pub mod Fairness
-pub mod Steps
+pub mod Ratios
+pub mod Spans
+pub mod Marks
+pub mod Turns

@@ -22,7 +22,7 @@ module _ (s : List ℕ) (c : ℕ) where
   unfolding whole rest
   share i = div-add-mod' (c * getD s i 0) (sum s)
 
-  rest-lt : 0 < sum s → (i : ℕ) → rest s c i < sum s
+  pub rest-lt : 0 < sum s → (i : ℕ) → rest s c i < sum s
   unfolding rest
   rest-lt pos i = mod-lt (c * getD s i 0) pos
 
@@ -48,14 +48,17 @@ module _ (s : List ℕ) (c : ℕ) where
       go (yes l) = l
       go (no l) = absurd (omega (arith, List·getD-eq-default s 0 {n = i} (omega arith)))
 
-  rest-inside : (i : ℕ) → 0 < rest s c i → i < length s
-  rest-inside i h = go (decLt 0 (getD s i 0))
+  pub rest-size : (i : ℕ) → 0 < rest s c i → 0 < getD s i 0
+  rest-size i h = go (decLt 0 (getD s i 0))
     where
-      go : Dec (0 < getD s i 0) → i < length s
-      go (yes l) = size-inside i l
+      go : Dec (0 < getD s i 0) → 0 < getD s i 0
+      go (yes l) = l
       go (no l) =
           let z : getD s i 0 ≡ 0 = omega arith in
           absurd (omega (arith, share i, ap (λ (x : ℕ). c * x) z))
+
+  rest-inside : (i : ℕ) → 0 < rest s c i → i < length s
+  rest-inside i h = size-inside i (rest-size i h)
 
   module _ (pos : 0 < sum s) (le : c ≤ sum s) where
     pub wholes-le : sumTo (length s) (whole s c) ≤ c
@@ -65,7 +68,7 @@ module _ (s : List ℕ) (c : ℕ) where
     unfolding still
     still-add = omega (arith, wholes-le)
 
-    still-rests : still s c * sum s ≡ sumTo (length s) (rest s c)
+    pub still-rests : still s c * sum s ≡ sumTo (length s) (rest s c)
     still-rests = omega (arith, shares, ap (λ (x : ℕ). x * sum s) still-add)
 
     -- no more kWh are still to cut than there are remainders above 0

@@ -1,11 +1,34 @@
 // The pro-quota cut: one cut shared over the units of a class, in whole kWh.
-ghost use mathlib.Core.List.{_++_};
 ghost use mathlib.Core.Path.{_≡_};
 ghost use Prim.Native.Nat.{ℕ, _+_, _*_, _/_, _%_, _≤_, _<_};
-ghost use lib.ListN.{length, getD, drop};
-ghost use Rattle.numbers.specs.Column.{column};
-ghost use Rattle.quota.specs.Quota.{whole, still, cutsOf};
-ghost use Rattle.quota.specs.Inner.{key, unitOf, rankedOf, above, dealt, Asked};
+ghost use lib.ListN.{length, getD};
+ghost use Rattle.numbers.specs.Column.{column, at, AllWithin};
+ghost use Rattle.numbers.specs.Range.{Within};
+ghost use Rattle.quota.specs.Quota.{still, cutsOf};
+ghost use Rattle.quota.specs.Inner.{Asked, Own, Rated, Sharing, top, Marked, markBy, marksOf, above, Spans, Narrowed, Parts, dealtAt};
+use terms::quantity::Direction;
+
+// C kWh of T, which is more, and what each kWh bears of them: C / T in parts of which a kWh has ONE, 2³², rounded down.
+struct Ratio {
+    c: u32,
+    t: u32,
+    each: u32,
+}
+
+impl Ratio {
+    const ONE: u64 = 4294967296;
+
+    fn of(c: u32, t: u32) -> Ratio
+        requires { ⌜ (c < t) × (t ≤ 64000000) ⌝ }
+        ensures { λ r. ⌜ (r .c ≡ c) × (r .t ≡ t) × Rated r ⌝ }
+    {
+        Ratio {
+            c,
+            t,
+            each: ((c as u64) * Ratio::ONE / (t as u64)) as u32,
+        }
+    }
+}
 
 // An exact share C·n / T: its whole part and its remainder.
 struct Share {
@@ -13,100 +36,166 @@ struct Share {
     rest: u32,
 }
 
-// The share of a unit of size n. Where the product is 0, as it is where T is 0, so is the share.
-fn share_of(c: u32, n: u32, t: u32) -> Share
-    requires { ⌜ (c ≤ t) × (t ≤ 64000000) × (n ≤ 1000000) ⌝ }
-    ensures { λ r. ⌜ (r .whole ≡ c * n / t) × (r .rest ≡ c * n % t) ⌝ }
+// The share of a unit of size n. What its kWh bear comes to its whole part or one less, so that no unit's share needs a division.
+fn share_of(ratio: Ratio, n: u32) -> Share
+    requires { ⌜ Rated ratio × (n ≤ 1000000) ⌝ }
+    ensures { λ r. ⌜ (r .whole ≡ ratio .c * n / ratio .t) × (r .rest ≡ ratio .c * n % ratio .t) ⌝ }
 {
-    let p = (c as u64) * (n as u64);
-    if p == 0 {
-        return Share { whole: 0, rest: 0 };
+    let near = ((ratio.each as u64) * (n as u64) / Ratio::ONE) as u32;
+    let rest = ((ratio.c as u64) * (n as u64) - (near as u64) * (ratio.t as u64)) as u32;
+    if rest < ratio.t {
+        return Share { whole: near, rest };
     }
     Share {
-        whole: (p / (t as u64)) as u32,
-        rest: (p % (t as u64)) as u32,
+        whole: near + 1,
+        rest: rest - ratio.t,
     }
 }
 
-// How many of the keys are above x.
-fn above(keys: &[u32], x: u32) -> u32
-    requires { ⌜ length (now keys) ≤ 64 ⌝ }
-    ensures { λ r. ⌜ r ≡ above (now (keys .entry)) x ⌝ }
+// No whole part is above it, and every key is: a remainder and a place in one number, the larger of which comes first.
+const TOP: u32 = 1048576;
+
+// What stands for a unit of this share and place: its key where it has a remainder, else its whole part.
+fn mark_of(share: Share, i: usize) -> u32
+    requires { ⌜ (share .rest ≤ 64000000) × (i < 64) ⌝ }
+    ensures { λ r. ⌜ r ≡ markBy (share .whole) (share .rest) i ⌝ }
+{
+    if 0 < share.rest {
+        return TOP + share.rest * 64 + (63 - i as u32);
+    }
+    share.whole
+}
+
+// Each size gives way to its unit's mark; the kWh that the whole parts leave to cut come back.
+fn marks_into(sizes: &mut [u32], ratio: Ratio) -> u32
+    requires { ⌜ Sharing (now sizes) ratio ⌝ }
+    ensures { λ r. ⌜ (r ≡ still (now (sizes .entry)) (ratio .c)) × (now (sizes .exit) ≡ marksOf (now (sizes .entry)) (ratio .c)) ⌝ }
+{
+    let mut left = ratio.c;
+    let mut i = 0;
+    while i < sizes.len() {
+        let share = share_of(ratio, sizes[i]);
+        left -= share.whole;
+        sizes[i] = mark_of(share, i);
+        i += 1;
+    }
+    left
+}
+
+// How many of the marks are above x.
+fn above(marks: &[u32], x: u32) -> u32
+    requires { ⌜ length (now marks) ≤ 64 ⌝ }
+    ensures { λ r. ⌜ r ≡ above (now (marks .entry)) x ⌝ }
 {
     let mut r = 0;
     let mut j = 0;
-    while j < keys.len() {
-        r += (x < keys[j]) as u32;
+    while j < marks.len() {
+        r += (x < marks[j]) as u32;
         j += 1;
     }
     r
 }
 
-// What the whole parts leave: the kWh still to cut, and the number of units with a remainder.
-struct Odd {
-    left: u32,
-    units: usize,
+// Keys up to low are not dealt a kWh, keys from high on are; those between are open.
+struct Span {
+    low: u32,
+    high: u32,
 }
 
-// Each size gives way to the whole part of its unit's share, and the keys of the units with a remainder come side by side.
-fn cut_wholes(sizes: &mut [u32], t: u32, c: u32, ranked: &mut [u32]) -> Odd
-    requires { ⌜ Asked (now sizes) t c × (length (now ranked) ≡ length (now sizes)) ⌝ }
-    ensures { λ r. ⌜ (r .left ≡ still (now (sizes .entry)) c)
-        × (r .units ≡ length (rankedOf (key (now (sizes .entry)) c) (length (now (sizes .entry)))))
-        × (now (sizes .exit) ≡ column (length (now (sizes .entry))) (whole (now (sizes .entry)) c))
-        × (now (ranked .exit) ≡ rankedOf (key (now (sizes .entry)) c) (length (now (sizes .entry))) ++ drop (r .units) (now (ranked .entry))) ⌝ }
+// The span in which x is not left open.
+fn narrowed(marks: &[u32], left: u32, span: Span, x: u32) -> Span
+    requires { ⌜ (length (now marks) ≤ 64) × Spans (now marks) left (span .low) (span .high) ⌝ }
+    ensures { λ r. ⌜ Narrowed (now (marks .entry)) left (span .low) (span .high) x (r .low) (r .high) ⌝ }
 {
-    let mut left = c;
-    let mut units = 0;
-    let mut k = 0;
-    while k < sizes.len() {
-        let share = share_of(c, sizes[k], t);
-        sizes[k] = share.whole;
-        left -= share.whole;
-        if 0 < share.rest {
-            ranked[units] = share.rest * 64 + (63 - k as u32);
-            units += 1;
-        }
-        k += 1;
+    if x <= span.low {
+        return span;
     }
-    Odd { left, units }
+    if span.high <= x {
+        return span;
+    }
+    let a = above(marks, x);
+    if a == left {
+        return Span {
+            low: x,
+            high: x + 1,
+        };
+    }
+    if a < left {
+        return Span {
+            low: span.low,
+            high: x,
+        };
+    }
+    Span {
+        low: x,
+        high: span.high,
+    }
 }
 
-// Deals the kWh left, one each, to the units whose keys have fewer than that above them; a key tells its unit.
-fn deal(ranked: &[u32], left: u32, cuts: &mut [u32])
-    requires { ⌜ (length (now ranked) ≤ 64)
-        × ((j : ℕ) → j < length (now ranked) → unitOf (getD (now ranked) j 0) < length (now cuts))
-        × ((k : ℕ) → getD (now cuts) k 0 ≤ 1000000) ⌝ }
-    ensures { λ _. ⌜ now (cuts .exit) ≡ column (length (now (cuts .entry)))
-        (λ (k : ℕ). getD (now (cuts .entry)) k 0 + dealt (now (ranked .entry)) left k) ⌝ }
+// The first numbers tried: the middle, and the mark that is the right one where all units have one remainder.
+fn guessed(marks: &[u32], left: u32, t: u32) -> Span
+    requires { ⌜ Marked (now marks) left t ⌝ }
+    ensures { λ r. ⌜ Spans (now (marks .entry)) left (r .low) (r .high) × (r .high ≤ top + t * 64) ⌝ }
 {
+    let open = Span {
+        low: TOP,
+        high: TOP + t * 64,
+    };
+    let span = narrowed(marks, left, open, TOP + t * 32);
+    narrowed(marks, left, span, marks[left as usize])
+}
+
+// A number above which are just the keys that are dealt a kWh: each mark that is still open is tried.
+fn bound(marks: &[u32], left: u32, t: u32) -> u32
+    requires { ⌜ Marked (now marks) left t ⌝ }
+    ensures { λ r. ⌜ Parts (now (marks .entry)) left r ⌝ }
+{
+    let mut span = guessed(marks, left, t);
     let mut j = 0;
-    while j < ranked.len() {
-        let key = ranked[j];
-        let k = (63 - key % 64) as usize;
-        cuts[k] += (above(ranked, key) < left) as u32;
+    while j < marks.len() && span.low + 1 < span.high {
+        span = narrowed(marks, left, span, marks[j]);
         j += 1;
     }
+    span.low
 }
 
-// The cut, with a column for the keys of units with a remainder.
-fn cut_over(sizes: &mut [u32], t: u32, c: u32, ranked: &mut [u32])
-    requires { ⌜ Asked (now sizes) t c × (length (now ranked) ≡ length (now sizes)) ⌝ }
+// What a unit loses: its mark where that is a whole part, else its whole part, worked out again, and a kWh more where the mark is above x. The share comes before the test, so that the loop has no branch.
+fn dealt_to(ratio: Ratio, d: Direction, x: u32, n1: i32, mark: u32) -> u32
+    requires { ⌜ Rated ratio × Within 1000000 n1 ⌝ }
+    ensures { λ r. ⌜ r ≡ dealtAt d (ratio .t) (ratio .c) x n1 mark ⌝ }
+{
+    let share = share_of(ratio, d.size(n1));
+    if mark <= TOP {
+        return mark;
+    }
+    share.whole + (x < mark) as u32
+}
+
+// Each mark gives way to its unit's cut; n1 tells the size that a key stands for.
+fn deal(ratio: Ratio, d: Direction, x: u32, n1: &[i32], cuts: &mut [u32])
+    requires { ⌜ Rated ratio × AllWithin 1000000 (now n1) × (length (now cuts) ≡ length (now n1)) ⌝ }
+    ensures { λ _. ⌜ now (cuts .exit) ≡ column (length (now (cuts .entry))) (λ (i : ℕ). dealtAt d (ratio .t) (ratio .c) x (at (now (n1 .entry)) i) (getD (now (cuts .entry)) i 0)) ⌝ }
+{
+    let mut i = 0;
+    while i < n1.len() {
+        cuts[i] = dealt_to(ratio, d, x, n1[i], cuts[i]);
+        i += 1;
+    }
+}
+
+// The pro-quota cut of c kWh over the sizes, whose total is t: each size gives way to its unit's cut, by way of its mark. What a size was is then told by n1 in the direction d, and no column beside them is needed. Where all is cut, the sizes are the cuts.
+pub fn cut(sizes: &mut [u32], t: u32, c: u32, d: Direction, n1: &[i32])
+    requires { ⌜ Asked (now sizes) t c × Own d (now n1) (now sizes) × AllWithin 1000000 (now n1) ⌝ }
     ensures { λ _. ⌜ now (sizes .exit) ≡ cutsOf (now (sizes .entry)) c ⌝ }
 {
-    let odd = cut_wholes(sizes, t, c, ranked);
-    if odd.left == 0 {
+    if c == t {
         return;
     }
-    deal(&ranked[..odd.units], odd.left, sizes);
-}
-
-// The pro-quota cut of c kWh over the sizes, whose total is t: each size gives way to its unit's cut.
-pub fn cut(sizes: &mut [u32], t: u32, c: u32)
-    requires { ⌜ Asked (now sizes) t c ⌝ }
-    ensures { λ _. ⌜ now (sizes .exit) ≡ cutsOf (now (sizes .entry)) c ⌝ }
-{
-    let n = sizes.len();
-    let mut ranked = [0u32; 64];
-    cut_over(sizes, t, c, &mut ranked[..n]);
+    let ratio = Ratio::of(c, t);
+    let left = marks_into(sizes, ratio);
+    if left == 0 {
+        return;
+    }
+    let x = bound(sizes, left, t);
+    deal(ratio, d, x, n1, sizes);
 }

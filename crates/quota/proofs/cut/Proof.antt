@@ -1,28 +1,78 @@
--- `cut` meets its contract, which is that of `cut_over` over its column.
-use mathlib.Core.Path.{sym}
-use lib.Seq.{length-take-le}
+-- `cut` meets its contract: where all is cut the sizes are the cuts, where nothing is left the marks are, and else what is dealt over the marks.
+use mathlib.Core.Path.{sym, ap, _∙_}
+use native.Mathlib.Omega.{arith}
 use borrow.Author.Needs.{needs}
+use denote.Ref.{now}
+use Rattle.quota.specs.Quota.{cutsOf}
+use Rattle.quota.specs.Inner.{Sharing}
+use Rattle.quota.proofs.Marks.{total-small, sharing, all-cut, marked, none-left, all-dealt}
 use Rattle.quota.proofs.cut.Statement.{statement}
 use Rattle.quota.proofs.cut.Tie as tie
 
-array-borrow-prefix-ranked : tie.Need-array-borrow-prefix-ranked
-array-borrow-prefix-ranked c = search needs
+returns : tie.Need-returns
+returns c = all-cut (c .before .before .pre .0) (c .if1 .taken)
 
-slice-aggregate-cut-over : tie.Need-slice-aggregate-cut-over
-slice-aggregate-cut-over c =
-    let start = c .before .before .before in
-    sym (length-take-le _ _ (start .pre .sized .few))
+of-requires : tie.Need-of-requires
+of-requires c κs =
+    let start = c .before .before in
+    (omega (arith, start .pre .0 .within, c .if1 .left), total-small (start .pre .0))
 
-cut-over-requires : tie.Need-cut-over-requires
-cut-over-requires c κs =
-    let pre = c .before .before .before .pre in
-    (pre, length-take-le _ _ (pre .sized .few))
+marks-into-requires : tie.Need-marks-into-requires
+marks-into-requires c κs = search needs
 
 same-length : tie.Need-same-length
 same-length c = search needs
 
-returns : tie.Need-returns
-returns c = search needs
+-- the ratio is one of the sizes
+abbrev rated-of : tie.After-marks-into → tie.After-of
+rated-of c = c .before .before
+
+abbrev start-of : tie.After-of → tie.Start
+start-of c = c .before .before .before
+
+shared : (c : tie.After-of) → Sharing (now (start-of c .args .sizes)) (c .of .result)
+shared c = sharing (start-of c .pre .0) (c .of .ensures .1) (c .of .ensures .2)
+
+returns-2 : tie.Need-returns-2
+returns-2 c =
+    let made = c .before .before .before in
+    let rated = rated-of made in
+    let m = made .marks-into .ensures in
+    m .1 ∙ none-left (shared rated) (sym (m .0) ∙ c .if2 .taken) ∙ ap (cutsOf (now (start-of rated .args .sizes))) (rated .of .ensures .0)
+
+bound-requires : tie.Need-bound-requires
+bound-requires c κs =
+    let made = c .before .before .before .before in
+    let rated = rated-of made in
+    let m = made .marks-into .ensures in
+    marked (shared rated) (m .1) (m .0) (rated .of .ensures .1)
+
+deal-requires : tie.Need-deal-requires
+deal-requires c κs = search needs
+
+same-length-2 : tie.Need-same-length-2
+same-length-2 c = search needs
+
+returns-3 : tie.Need-returns-3
+returns-3 c =
+    let made = c .before .before .before .before .before .before .before .before .before in
+    let rated = rated-of made in
+    let start = start-of rated in
+    let m = made .marks-into .ensures in
+    c .before .before .deal .ensures
+    ∙ all-dealt (shared rated) _ (start .pre .1) (m .1) (m .0) (c .before .before .before .before .bound .ensures)
+    ∙ ap (cutsOf (now (start .args .sizes))) (rated .of .ensures .0)
 
 pub cut-spec : {M : Type 1} → statement M
-cut-spec = tie.close (tie.spec array-borrow-prefix-ranked slice-aggregate-cut-over cut-over-requires same-length returns)
+cut-spec =
+    tie.close
+    (tie.spec
+    returns
+    of-requires
+    marks-into-requires
+    same-length
+    returns-2
+    bound-requires
+    deal-requires
+    same-length-2
+    returns-3)

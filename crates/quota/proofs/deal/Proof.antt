@@ -1,94 +1,72 @@
--- `deal` meets its contract: after j turns `Deals` holds of j keys.
+-- `deal` meets its contract: it fills the column, and of it reads only the place that it fills next.
 use Prim.Native.Nat.{ℕ, _-_}
-use mathlib.Core.Path.{refl, ap}
 use native.Mathlib.Omega.{arith}
 use borrow.Author.Needs.{needs}
-use lib.Dec.{ltb}
+use mathlib.Core.Path.{_≡_, refl}
+use denote.Ref.{now}
+use mir.Syntax.{w32}
+use mir.Val.{SFits}
+use mir.Facts.{toZ-ofZ}
 use lib.ListN.{length, getD}
-use Rattle.numbers.specs.Sum.{sumTo, count}
-use Rattle.numbers.proofs.Sums.{bit-one, count-all}
-use Rattle.quota.specs.Inner.{unitOf, deals}
-use Rattle.quota.proofs.Steps.{Deals, deals-more, deals-end}
+use Rattle.numbers.specs.Column.{at}
+use Rattle.numbers.proofs.Filling.{Filled, filled-start, filled-next, filled-turn, filled-end}
+use Rattle.quota.specs.Inner.{dealtAt}
 use Rattle.quota.proofs.deal.Statement.{statement}
 use Rattle.quota.proofs.deal.Tie as tie
 
 abbrev Inv-loop : tie.InvT-loop
-Inv-loop ranked left cuts₀ j₀ cuts j = Deals ranked left cuts₀ cuts j
+Inv-loop ratio d x n1 cuts₀ i₀ cuts i = Filled (λ (j : ℕ). dealtAt d (ratio .t) (ratio .c) x (at n1 j) (getD cuts₀ j 0)) (length cuts₀) cuts₀ cuts i
 
 abbrev μ-loop : tie.MeasureT-loop
-μ-loop ranked left cuts₀ j₀ cuts j = length ranked - j
+μ-loop ratio d x n1 cuts₀ i₀ cuts i = length n1 - i
 
 loop-holds : tie.Need-loop-holds Inv-loop μ-loop
-unfolding count sumTo
-loop-holds c = search needs
+loop-holds c = filled-start _ _ _
 
-mul-key : tie.Need-mul-key Inv-loop μ-loop
-mul-key c = search needs
+mul-dealt-to : tie.Need-mul-dealt-to Inv-loop μ-loop
+mul-dealt-to c = search needs
 
-shared-slice-read-key : tie.Need-shared-slice-read-key Inv-loop μ-loop
-shared-slice-read-key c = search needs
+shared-slice-copy-out-dealt-to : tie.Need-shared-slice-copy-out-dealt-to Inv-loop μ-loop
+shared-slice-copy-out-dealt-to c = search needs
 
-sub-k : tie.Need-sub-k Inv-loop μ-loop
-sub-k c = search needs
+mul-dealt-to-2 : tie.Need-mul-dealt-to-2 Inv-loop μ-loop
+mul-dealt-to-2 c = search needs
 
-cast-k : tie.Need-cast-k Inv-loop μ-loop
-cast-k c = search needs
+slice-read-dealt-to : tie.Need-slice-read-dealt-to Inv-loop μ-loop
+slice-read-dealt-to c = search needs
 
-above-requires : tie.Need-above-requires Inv-loop μ-loop
-above-requires c κs = search needs
-
-cast-cuts : tie.Need-cast-cuts Inv-loop μ-loop
-cast-cuts c = search needs
+dealt-to-requires : tie.Need-dealt-to-requires Inv-loop μ-loop
+dealt-to-requires c κs =
+    let start = c .before .before .before .before .before in
+    let l = c .before .before .before .loop in
+    let f : SFits w32 (at (now (start .args .n1)) (l .i)) = record { sfits = c .before .dealt-to-arg .given } in
+    (start .pre .0, simp toZ-ofZ (start .pre .1 (l .i)))
 
 mul-cuts : tie.Need-mul-cuts Inv-loop μ-loop
 mul-cuts c = search needs
 
-slice-read-cuts : tie.Need-slice-read-cuts Inv-loop μ-loop
-slice-read-cuts c =
-    let loop = c .before .before .before .before in
-    let start = loop .before .before .before in
-    omega (arith, start .pre .1 (loop .loop .j) (omega arith))
-
-add-cuts : tie.Need-add-cuts Inv-loop μ-loop
-add-cuts c =
-    let loop = c .before .before .before .before in
-    let start = loop .before .before .before in
-    let a = start .args in
-    let o = loop .loop in
-    let k : ℕ = unitOf (getD (a .ranked .now) (o .j) 0) in
-    omega (
-      arith,
-      o .inv .done k,
-      start .pre .2 k,
-      count-all (o .j) (λ (i : ℕ). deals (a .ranked .now) (a .left) k (getD (a .ranked .now) i 0)),
-      bit-one (ltb (c .before .above .result) (a .left)),
-    )
-
 slice-write-cuts : tie.Need-slice-write-cuts Inv-loop μ-loop
-slice-write-cuts c =
-    let loop = c .before .before .before .before in
-    let start = loop .before .before .before in
-    omega (arith, start .pre .1 (loop .loop .j) (omega arith))
+slice-write-cuts c = search needs
 
-add-j : tie.Need-add-j Inv-loop μ-loop
-add-j c = search needs
+add-i : tie.Need-add-i Inv-loop μ-loop
+add-i c = search needs
 
 loop-less : tie.Need-loop-less Inv-loop μ-loop
 loop-less c = search needs
 
 loop-again : tie.Need-loop-again Inv-loop μ-loop
 loop-again c =
-    let loop-test = c .before .before .before in
-    let start = loop-test .before .before .before .before in
-    let o = loop-test .before .loop in
-    let l = loop-test .loop-test .taken in
-    deals-more (o .inv) _ refl l (start .pre .1 (o .j) l) (ap (λ (r : ℕ). ltb r (start .args .left)) (c .before .above .ensures))
+    let a = c .before .before .before .before .before .before .args in
+    let l = c .before .before .before .before .loop in
+    let f : SFits w32 (at (now (a .n1)) (l .i)) = record { sfits = c .before .before .dealt-to-arg .given } in
+    let e : c .dealt-to .result ≡ dealtAt (a .d) (a .ratio .t) (a .ratio .c) (a .x) (at (now (a .n1)) (l .i)) (getD (l .cuts) (l .i) 0) = simp toZ-ofZ at (c .dealt-to .ensures) in
+    filled-turn (l .inv) refl 0 (rw (filled-next (l .inv) refl 0 (omega arith)) at e) (omega arith)
 
 same-length : tie.Need-same-length Inv-loop μ-loop
 same-length c = search needs
 
 returns : tie.Need-returns Inv-loop μ-loop
-returns c = deals-end (c .before .loop .inv) (omega arith)
+returns c = filled-end (c .before .loop .inv) refl (omega arith)
 
 pub deal-spec : {M : Type 1} → statement M
 deal-spec =
@@ -97,17 +75,14 @@ deal-spec =
     Inv-loop
     μ-loop
     loop-holds
-    mul-key
-    shared-slice-read-key
-    sub-k
-    cast-k
-    above-requires
-    cast-cuts
+    mul-dealt-to
+    shared-slice-copy-out-dealt-to
+    mul-dealt-to-2
+    slice-read-dealt-to
+    dealt-to-requires
     mul-cuts
-    slice-read-cuts
-    add-cuts
     slice-write-cuts
-    add-j
+    add-i
     loop-less
     loop-again
     same-length

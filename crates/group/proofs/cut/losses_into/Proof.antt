@@ -4,7 +4,7 @@ use borrow.Author.Needs.{needs}
 use lib.IntN.{natAbs}
 use mir.Facts.{toZ-ofZ}
 use Rattle.group.specs.Steps.{directionOf}
-use Rattle.group.proofs.Through.{through-asked, through-all, through-part}
+use Rattle.group.proofs.Through.{through-asked, through-own, through-all, through-part}
 use Rattle.group.proofs.cut.losses_into.Tie as tie
 use Rattle.group.proofs.cut.losses_into.Statement.{statement}
 
@@ -37,7 +37,11 @@ cut-requires c κs =
     let shared = c .before .before .before in
     let magnitude = shared .before .before in
     let s = magnitude .before .before .before .before in
-    through-asked (s .pre .0) (direction-is shared) (size-is shared) (shared .share-out .ensures)
+    let o = shared .share-out .ensures in (
+      through-asked (s .pre .0) (direction-is shared) (size-is shared) o,
+      through-own (s .pre .0) (direction-is shared) (size-is shared) o,
+      s .pre .0 .classed .small,
+    )
 
 lose-all-requires : tie.Need-lose-all-requires
 lose-all-requires c κs = search needs
