@@ -6,6 +6,7 @@ use mathlib.Core.List.{List, []}
 use Rattle.terms.specs.Reply.{Reply, is, refused, next}
 use Rattle.terms.proofs.Replies.{never, next-is}
 use Rattle.terms.proofs.Numbers.{isOf, allOf, By, value, by-next}
+use Rattle.records.specs.declared.day.DayRecord.{DayRecord}
 use Rattle.records.specs.declared.group.GroupRecord.{GroupRecord}
 use Rattle.records.specs.Layouts.{groupLength}
 use Rattle.records.specs.Reading.{unitsOf}
@@ -17,15 +18,15 @@ use Rattle.blocks.specs.Checking.{blockOf, blockUnitsOf}
 abbrev pub afterUnits : List ℕ
 afterUnits = []
 
-module _ (s : List ℕ) (group : GroupRecord) (run limit : ℕ) where
+module _ (s : List ℕ) (group : GroupRecord) (day : DayRecord) where
   abbrev units : Reply ℕ
-  units = unitsOf s groupLength 0 run limit (group .count)
+  units = unitsOf s groupLength 0 day (group .count)
 
-  pub units-refuse : {n p : ℕ} → units ≡ refused n p → blockUnitsOf s group run limit ≡ refused n p
+  pub units-refuse : {n p : ℕ} → units ≡ refused n p → blockUnitsOf s group day ≡ refused n p
   unfolding blockUnitsOf next
   units-refuse e = rw e
 
-  pub units-pass : {end : ℕ} → units ≡ is end → blockUnitsOf s group run limit ≡ is (blockOf group end)
+  pub units-pass : {end : ℕ} → units ≡ is end → blockUnitsOf s group day ≡ is (blockOf group end)
   unfolding blockUnitsOf next
   units-pass e = rw e
 
@@ -35,14 +36,14 @@ module _ (s : List ℕ) (group : GroupRecord) (run limit : ℕ) where
     pub passed : units ≡ is end
     pub value : block ≡ blockOf group end
 
-  pub made : {block : Block} → blockUnitsOf s group run limit ≡ is block → Made block
+  pub made : {block : Block} → blockUnitsOf s group day ≡ is block → Made block
   unfolding blockUnitsOf
   made e =
       let a = next-is units _ e in
       record { end = a .0; passed = a .1 .0; value = cc (a .1 .1) }
 
   -- a refusal by none of the numbers after the units is theirs
-  pub unmade : {n p : ℕ} → (isOf afterUnits n ≡ true → ⊥) → blockUnitsOf s group run limit ≡ refused n p → units ≡ refused n p
+  pub unmade : {n p : ℕ} → (isOf afterUnits n ≡ true → ⊥) → blockUnitsOf s group day ≡ refused n p → units ≡ refused n p
   unfolding blockUnitsOf next
   unmade {n} {p} other = go units
     where
@@ -54,12 +55,12 @@ module _ (s : List ℕ) (group : GroupRecord) (run limit : ℕ) where
           rw (z, y)
 
   -- a block is refused by the numbers of its units, and by those after them
-  pub by-block : (l : List ℕ) → allOf (isOf l) afterUnits ≡ true → By l units → By l (blockUnitsOf s group run limit)
+  pub by-block : (l : List ℕ) → allOf (isOf l) afterUnits ≡ true → By l units → By l (blockUnitsOf s group day)
   unfolding blockUnitsOf
   by-block l e h = by-next h (λ end _. value _)
 
 -- bytes that agree as far as units go that passed make one block
-pub block-alike : (s t : List ℕ) (n : ℕ) → Agree s t n → (group : GroupRecord) (run limit : ℕ) {end : ℕ} → end ≤ n → unitsOf s groupLength 0 run limit (group .count) ≡ is end
-    → blockUnitsOf t group run limit ≡ blockUnitsOf s group run limit
+pub block-alike : (s t : List ℕ) (n : ℕ) → Agree s t n → (group : GroupRecord) (day : DayRecord) {end : ℕ} → end ≤ n → unitsOf s groupLength 0 day (group .count) ≡ is end
+    → blockUnitsOf t group day ≡ blockUnitsOf s group day
 unfolding blockUnitsOf
-block-alike s t n a group run limit h e = rw (units-kept s t n a groupLength 0 run limit (group .count) h e, e)
+block-alike s t n a group day h e = rw (units-kept s t n a groupLength 0 day (group .count) h e, e)

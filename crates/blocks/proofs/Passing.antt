@@ -62,7 +62,7 @@ module _ {s : List ℕ} (b : Passed s) where
   count = blockCount s
 
   accepted : Accepted g
-  accepted = units-accepted s (b .run) (b .limit) count (b .long) (b .few) (b .units)
+  accepted = units-accepted s (b .day) count (b .long) (b .few) (b .units)
 
   pub units-count : length (g .n0) ≡ count
   units-count = column-length _ count

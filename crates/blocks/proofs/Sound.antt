@@ -13,6 +13,7 @@ use Rattle.terms.specs.Reply.{is}
 use Rattle.terms.specs.Checks.{mostUnits}
 use Rattle.group.specs.Accepted.{Level, Sound, Accepted}
 use Rattle.group.specs.Group.{marginsAt}
+use Rattle.records.specs.declared.day.DayRecord.{DayRecord}
 use Rattle.records.specs.Layouts.{groupLength, marginsOf}
 use Rattle.records.specs.Reading.{unitsOf, unitIn}
 use Rattle.records.specs.Decoding.{unitN0}
@@ -30,7 +31,7 @@ level-in s count =
       classes = rw (n, column-length _ count);
     }
 
-module _ (s : List ℕ) (run limit count : ℕ) {end : ℕ} (long : groupLength ≤ length s) (few : count ≤ mostUnits) (e : unitsOf s groupLength 0 run limit count ≡ is end) where
+module _ (s : List ℕ) (day : DayRecord) (count : ℕ) {end : ℕ} (long : groupLength ≤ length s) (few : count ≤ mostUnits) (e : unitsOf s groupLength 0 day count ≡ is end) where
   -- as a group, each unit is sound, and past the last there is nothing to refuse
   pub units-accepted : Accepted (groupIn s count)
   units-accepted =
@@ -55,7 +56,7 @@ module _ (s : List ℕ) (run limit count : ℕ) {end : ℕ} (long : groupLength 
       go : (i : ℕ) → Dec (i < count)
           → Sound (getD (column count class) i 0) (at (column count n0) i) (at (column count pc) i) (marginsAt (column count down) (column count up) i)
       go i (yes l) =
-          let u = unit-in s run limit count long e i l in
+          let u = unit-in s day count long e i l in
           rw (column-at class count i 0 l, column-at n0 count i (pos 0) l, column-at pc count i (pos 0) l, column-at down count i (pos 0) l, column-at up count i (pos 0) l)
           (record { known = u .class; n0-small = u .n0; pc-small = u .pc; down-small = u .step-down; up-small = u .step-up; ordered = u .ordered })
       go i (no l) =

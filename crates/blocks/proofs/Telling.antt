@@ -17,6 +17,7 @@ use Rattle.terms.proofs.Replies.{never, need-is, next-is}
 use Rattle.group.specs.Inner.{faultsOf, amountsPass}
 use Rattle.group.specs.Group.{marginsAt}
 use Rattle.group.proofs.Amounts.{amounts-all, amounts-only}
+use Rattle.records.specs.declared.day.DayRecord.{DayRecord}
 use Rattle.records.specs.declared.group.GroupRecord.{GroupRecord}
 use Rattle.records.specs.Layouts.{groupLength, groupAt, marginsOf}
 use Rattle.records.specs.Reading.{unitIn, unitsOf}
@@ -56,78 +57,78 @@ module _ {s : List ℕ} {p : ℤ} {class taken : List ℕ} {n0 down up : List �
   unlooked all = amounts-only n0 down up (λ i l. entry i (omega (arith, start-count)) ∙ all i (omega (arith, start-count)))
 
 -- units read with a look at all: they pass, or one of them does not
-pub record UnitsPassed (s : List ℕ) (run limit : ℕ) (r : Reading) (class taken : List ℕ) (n0 down up : List ℤ) : Type 0 where
+pub record UnitsPassed (s : List ℕ) (day : DayRecord) (r : Reading) (class taken : List ℕ) (n0 down up : List ℤ) : Type 0 where
   pub decoded : r .whole ≡ true → Decoded s (r .p .0) class taken n0 down up
-  pub ends : r .whole ≡ true → unitsAt s run limit ≡ is (r .end)
-  pub fails : r .whole ≡ false → (end : ℕ) → unitsAt s run limit ≡ is end → ⊥
+  pub ends : r .whole ≡ true → unitsAt s day ≡ is (r .end)
+  pub fails : r .whole ≡ false → (end : ℕ) → unitsAt s day ≡ is end → ⊥
 
-module _ {s : List ℕ} {run limit : ℕ} {r : Reading} {class taken : List ℕ} {n0 down up : List ℤ} (b : Begun s) (u : UnitsRead s run limit r class taken n0 down up) where
+module _ {s : List ℕ} {day : DayRecord} {r : Reading} {class taken : List ℕ} {n0 down up : List ℤ} (b : Begun s) (u : UnitsRead s day r class taken n0 down up) where
   -- the reading was broken off, or came to its end and all pass, or not
-  pub pass-broken : {q : Reading} → r .whole ≡ false → q .whole ≡ false → UnitsPassed s run limit q class taken n0 down up
+  pub pass-broken : {q : Reading} → r .whole ≡ false → q .whole ≡ false → UnitsPassed s day q class taken n0 down up
   pass-broken w e =
       record { decoded = λ t. absurd (false≢true (sym e ∙ t)); ends = λ t. absurd (false≢true (sym e ∙ t)); fails = λ _. u .fails w }
 
-  pub pass-all : r .whole ≡ true → amountsPass n0 down up ≡ true → UnitsPassed s run limit r class taken n0 down up
+  pub pass-all : r .whole ≡ true → amountsPass n0 down up ≡ true → UnitsPassed s day r class taken n0 down up
   pass-all w e =
       record { decoded = u .decoded; ends = λ _. u .ends w (looked (u .decoded w) e); fails = λ f. absurd (false≢true (sym f ∙ w)) }
 
-  pub pass-not : {q : Reading} → r .whole ≡ true → amountsPass n0 down up ≡ false → q .whole ≡ false → UnitsPassed s run limit q class taken n0 down up
+  pub pass-not : {q : Reading} → r .whole ≡ true → amountsPass n0 down up ≡ false → q .whole ≡ false → UnitsPassed s day q class taken n0 down up
   pass-not w e f =
       record {
         decoded = λ t. absurd (false≢true (sym f ∙ t));
         ends = λ t. absurd (false≢true (sym f ∙ t));
-        fails = λ _ end k. absurd (false≢true (sym e ∙ unlooked (u .decoded w) (amounts-passed s run limit b k)));
+        fails = λ _ end k. absurd (false≢true (sym e ∙ unlooked (u .decoded w) (amounts-passed s day b k)));
       }
 
-module _ {s : List ℕ} {run limit : ℕ} {r : Reading} {class taken : List ℕ} {n0 down up : List ℤ} (u : UnitsPassed s run limit r class taken n0 down up) where
-  pub told-end : {q : Units} → r .whole ≡ true → answer (q .end) ≡ is (r .end) → q .p ≡ r .p → UnitsTold s run limit q class taken n0 down up
+module _ {s : List ℕ} {day : DayRecord} {r : Reading} {class taken : List ℕ} {n0 down up : List ℤ} (u : UnitsPassed s day r class taken n0 down up) where
+  pub told-end : {q : Units} → r .whole ≡ true → answer (q .end) ≡ is (r .end) → q .p ≡ r .p → UnitsTold s day q class taken n0 down up
   told-end w e p = record { replied = e ∙ sym (u .ends w); decoded = λ end _. rw p (u .decoded w) }
 
-  pub told-refusal : {q : Units} → r .whole ≡ false → answer (q .end) ≡ unitsAt s run limit → UnitsTold s run limit q class taken n0 down up
+  pub told-refusal : {q : Units} → r .whole ≡ false → answer (q .end) ≡ unitsAt s day → UnitsTold s day q class taken n0 down up
   told-refusal w e = record { replied = e; decoded = λ end k. absurd (u .fails w end (sym e ∙ k)) }
 
 -- a block by its units
-module _ (s : List ℕ) (group : GroupRecord) (run limit : ℕ) (b : Begun s) (g : group ≡ groupAt s 0) where
-  same-count : unitsOf s groupLength 0 run limit (group .count) ≡ unitsAt s run limit
-  same-count = ap (λ (x : GroupRecord). unitsOf s groupLength 0 run limit (x .count)) g
+module _ (s : List ℕ) (group : GroupRecord) (day : DayRecord) (b : Begun s) (g : group ≡ groupAt s 0) where
+  same-count : unitsOf s groupLength 0 day (group .count) ≡ unitsAt s day
+  same-count = ap (λ (x : GroupRecord). unitsOf s groupLength 0 day (x .count)) g
 
-  module _ {r : Units} {class taken : List ℕ} {n0 down up : List ℤ} (u : UnitsTold s run limit r class taken n0 down up) where
-    pub block-refused : {q : Told} {f : Refusal} → answer (r .end) ≡ refusal f → q .block ≡ B.Refused f → BlockTold s group run limit q class taken n0 down up
+  module _ {r : Units} {class taken : List ℕ} {n0 down up : List ℤ} (u : UnitsTold s day r class taken n0 down up) where
+    pub block-refused : {q : Told} {f : Refusal} → answer (r .end) ≡ refusal f → q .block ≡ B.Refused f → BlockTold s group day q class taken n0 down up
     block-refused e k =
         record {
-          replied = rw k (sym (units-refuse s group run limit (same-count ∙ sym (u .replied) ∙ e)));
+          replied = rw k (sym (units-refuse s group day (same-count ∙ sym (u .replied) ∙ e)));
           decoded = λ block. rw k (λ h. never h);
           passed = λ block. rw k (λ h. never h);
         }
 
-    pub block-passed : {q : Told} {end : ℕ} → answer (r .end) ≡ is end → q .block ≡ B.Is (blockOf group end) → q .p ≡ r .p → BlockTold s group run limit q class taken n0 down up
+    pub block-passed : {q : Told} {end : ℕ} → answer (r .end) ≡ is end → q .block ≡ B.Is (blockOf group end) → q .p ≡ r .p → BlockTold s group day q class taken n0 down up
     block-passed {end = end} e k p =
         record {
-          replied = rw k (sym (units-pass s group run limit (same-count ∙ sym (u .replied) ∙ e)));
+          replied = rw k (sym (units-pass s group day (same-count ∙ sym (u .replied) ∙ e)));
           decoded = λ block _. rw p (u .decoded end e);
-          passed = λ block _. record { run = run; limit = limit; end = end; long = b .long; few = b .few; units = sym (u .replied) ∙ e };
+          passed = λ block _. record { day = day; end = end; long = b .long; few = b .few; units = sym (u .replied) ∙ e };
         }
 
 -- and then 12, or the result
-module _ (s : List ℕ) (group : GroupRecord) (run limit : ℕ) (entry : List ℕ) where
-  pub taking-refused : {f : Refusal} → refusal f ≡ blockUnitsOf s group run limit → Taking s group run limit entry (B.Refused f) entry
+module _ (s : List ℕ) (group : GroupRecord) (day : DayRecord) (entry : List ℕ) where
+  pub taking-refused : {f : Refusal} → refusal f ≡ blockUnitsOf s group day → Taking s group day entry (B.Refused f) entry
   unfolding unitsTaken next blockAfter
   taking-refused e = record { replied = rw (← e); room = rw (← e) }
 
-  module _ {block : Block} (e : is block ≡ blockUnitsOf s group run limit) where
-    pub taking-small : {f : Refusal} → refusal {A = Block} f ≡ refused 12 0 → leb (block .written) (length entry) ≡ false → Taking s group run limit entry (B.Refused f) entry
+  module _ {block : Block} (e : is block ≡ blockUnitsOf s group day) where
+    pub taking-small : {f : Refusal} → refusal {A = Block} f ≡ refused 12 0 → leb (block .written) (length entry) ≡ false → Taking s group day entry (B.Refused f) entry
     unfolding unitsTaken next need blockAfter
     taking-small h t = record { replied = h ∙ rw (← e, t); room = rw (← e, t) }
 
-    pub taking-done : {exit : List ℕ} → leb (block .written) (length entry) ≡ true → exit ≡ laidAt entry 0 (blockResult s) → Taking s group run limit entry (B.Is block) exit
+    pub taking-done : {exit : List ℕ} → leb (block .written) (length entry) ≡ true → exit ≡ laidAt entry 0 (blockResult s) → Taking s group day entry (B.Is block) exit
     unfolding unitsTaken next need blockAfter
     taking-done t h = record { replied = rw (← e, t); room = h ∙ rw (← e, t) }
 
     -- a block's result is as long as its count says
     pub taken-long : group ≡ groupAt s 0 → block .written ≡ resultLength (blockCount s)
-    taken-long g = rw (made s group run limit (sym e) .value, g)
+    taken-long g = rw (made s group day (sym e) .value, g)
 
-  pub took-long : {block : Block} → is block ≡ unitsTaken s group run limit (length entry) → group ≡ groupAt s 0 → block .written ≡ resultLength (blockCount s)
+  pub took-long : {block : Block} → is block ≡ unitsTaken s group day (length entry) → group ≡ groupAt s 0 → block .written ≡ resultLength (blockCount s)
   unfolding unitsTaken
   took-long {block} e g =
       let a = next-is _ _ (sym e) in

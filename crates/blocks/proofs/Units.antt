@@ -22,6 +22,7 @@ use Rattle.terms.proofs.Replies.{never}
 use Rattle.terms.proofs.FirstRefused as reading
 use Rattle.terms.proofs.FirstRefused.{Left}
 use Rattle.group.proofs.Amounts.{faults-none, none-faulty}
+use Rattle.records.specs.declared.day.DayRecord.{DayRecord}
 use Rattle.records.specs.declared.unit.UnitRecord.{UnitRecord}
 use Rattle.records.specs.Layouts.{groupLength, lengthOf, marginsOf, unitAt}
 use Rattle.records.specs.Reading.{unitEnd, placeFrom, unitPlace, unitIn, unitOf, unitFaults}
@@ -38,10 +39,10 @@ use Rattle.blocks.proofs.Filling.{Filled, fill-none, fill-more, fill-al
 -- the unit of an index passed its checks, and lies whole in the block
 module _ {s : List ℕ} (b : Passed s) where
   pub unit-sound : (i : ℕ) → i < blockCount s → Sound (unitIn s i)
-  unit-sound = unit-in s (b .run) (b .limit) (blockCount s) (b .long) (b .units)
+  unit-sound = unit-in s (b .day) (blockCount s) (b .long) (b .units)
 
   pub unit-there : (i : ℕ) → i < blockCount s → unitEnd s (unitPlace s i) ≤ length s
-  unit-there = unit-whole s (b .run) (b .limit) (blockCount s) (b .long) (b .units)
+  unit-there = unit-whole s (b .day) (blockCount s) (b .long) (b .units)
 
 -- a mark is the number that it adds to a reason
 pub mark : (b : Bool) → boolByte b ≡ bit b
@@ -70,12 +71,12 @@ module _ {f : ℕ → ℤ} {i p : ℕ} (a : Added f i p) (few : i ≤ mostUnits)
       record { total = eq ∙ rw n; small = rw n (omega (zarith, a .small, plus (sumZ (column i f)) z)) }
 
 -- a block whose units pass: no nomination and no margins of theirs fail
-pub amounts-passed : (s : List ℕ) (run limit : ℕ) → Begun s → {end : ℕ} → unitsAt s run limit ≡ is end → (i : ℕ) → i < blockCount s → Amounts s i
-amounts-passed s run limit b e i l =
-    let u = unit-in s run limit (blockCount s) (b .long) e i l in
+pub amounts-passed : (s : List ℕ) (day : DayRecord) → Begun s → {end : ℕ} → unitsAt s day ≡ is end → (i : ℕ) → i < blockCount s → Amounts s i
+amounts-passed s day b e i l =
+    let u = unit-in s day (blockCount s) (b .long) e i l in
     none-faulty _ _ (u .n0) (u .step-down) (u .step-up) (u .ordered)
 
-module _ (s : List ℕ) (run limit : ℕ) (class₀ taken₀ : List ℕ) (n0₀ down₀ up₀ : List ℤ) where
+module _ (s : List ℕ) (day : DayRecord) (class₀ taken₀ : List ℕ) (n0₀ down₀ up₀ : List ℤ) where
   abbrev count : ℕ
   count = blockCount s
 
@@ -84,7 +85,7 @@ module _ (s : List ℕ) (run limit : ℕ) (class₀ taken₀ : List ℕ) (n0₀ 
     pub begun : Begun s
     pub within : i ≤ count
     pub place : here ≡ unitPlace s i
-    pub left : ((j : ℕ) → j < i → Amounts s j) → Left (unitsAfter s run limit) (unitsAt s run limit) count i (here, floor)
+    pub left : ((j : ℕ) → j < i → Amounts s j) → Left (unitsAfter s day) (unitsAt s day) count i (here, floor)
     pub sold : Added (λ (k : ℕ). unitIn s k .pc .0) i p
     pub classes : Filled (λ (k : ℕ). unitIn s k .class) count i class₀ class
     pub marks : Filled (λ (k : ℕ). bit (unitImplicit (unitIn s k))) count i taken₀ taken
@@ -99,7 +100,7 @@ module _ (s : List ℕ) (run limit : ℕ) (class₀ taken₀ : List ℕ) (n0₀ 
         begun = b;
         within = omega arith;
         place = refl;
-        left = λ all. reading.start (units-steps s run limit) count (groupLength, 0);
+        left = λ all. reading.start (units-steps s day) count (groupLength, 0);
         sold = record { total = refl; small = omega zarith };
         classes = fill-none _ _ _ (r .classes);
         marks = fill-none _ _ _ (r .marks);
@@ -117,17 +118,17 @@ module _ (s : List ℕ) (run limit : ℕ) (class₀ taken₀ : List ℕ) (n0₀ 
 
     module _ (l : i < count) where
       -- a unit here that is not whole, or whose marks do not pass, is refused: so the units do not pass
-      pub stopped : ((u : UnitRecord) → unitOf s here floor run limit ≡ is u → ⊥) → (end : ℕ) → unitsAt s run limit ≡ is end → ⊥
+      pub stopped : ((u : UnitRecord) → unitOf s here floor day ≡ is u → ⊥) → (end : ℕ) → unitsAt s day ≡ is end → ⊥
       stopped unread end e =
-          let all = amounts-passed s run limit (g .begun) e in
-          go (g .left (λ j k. all j (omega arith))) (unitOf s here floor run limit) refl
+          let all = amounts-passed s day (g .begun) e in
+          go (g .left (λ j k. all j (omega arith))) (unitOf s here floor day) refl
         where
-          go : Left (unitsAfter s run limit) (unitsAt s run limit) count i (here, floor) → (r : Reply UnitRecord) → unitOf s here floor run limit ≡ r → ⊥
+          go : Left (unitsAfter s day) (unitsAt s day) count i (here, floor) → (r : Reply UnitRecord) → unitOf s here floor day ≡ r → ⊥
           go left (is u) q = unread u q
-          go left (refused n k) q = never (reading.stop (units-steps s run limit) count i left l q ∙ e)
+          go left (refused n k) q = never (reading.stop (units-steps s day) count i left l q ∙ e)
 
       -- the values of the unit of index i are stored
-      pub turn : {u : UnitRecord} → u ≡ unitIn s i → Marked u → isWhole s here ≡ true → marksPass u floor run limit ≡ true
+      pub turn : {u : UnitRecord} → u ≡ unitIn s i → Marked u → isWhole s here ≡ true → marksPass u floor day ≡ true
           → {k m q h f : ℕ} {z x y : ℤ}
           → k ≡ u .class → m ≡ bit (unitImplicit u) → z ≡ unitN0 u → x ≡ marginsOf u .«step_down» → y ≡ marginsOf u .«step_up»
           → h ≡ here + lengthOf u → f ≡ u .number + 1 → q ≡ ofZ w32 (sumZ (pcIn s i) +ℤ u .pc .0)
@@ -150,12 +151,12 @@ module _ (s : List ℕ) (run limit : ℕ) (class₀ taken₀ : List ℕ) (n0₀ 
           is-here : u ≡ unitAt s here
           is-here = v ∙ ap (unitAt s) (sym (g .place))
 
-          onward : ((j : ℕ) → j < i + 1 → Amounts s j) → Left (unitsAfter s run limit) (unitsAt s run limit) count (i + 1) (h, f)
+          onward : ((j : ℕ) → j < i + 1 → Amounts s j) → Left (unitsAfter s day) (unitsAt s day) count (i + 1) (h, f)
           onward all =
               let a = faults-none _ _ (all i (omega arith)) in
-              let fine : unitFaults (unitAt s here) floor run limit ≡ Fine =
-              rw (← is-here) (marks-enough u floor run limit passes (rw v (a .0)) (rw v (a .1 .0)) (rw v (a .1 .1 .0)) (rw v (a .1 .1 .1))) in
-              let next = reading.turn (units-steps s run limit) count i (g .left (λ j k. all j (omega arith))) l (unit-read s here floor run limit there fine) in
+              let fine : unitFaults (unitAt s here) floor day ≡ Fine =
+              rw (← is-here) (marks-enough u floor day passes (rw v (a .0)) (rw v (a .1 .0)) (rw v (a .1 .1 .0)) (rw v (a .1 .1 .1))) in
+              let next = reading.turn (units-steps s day) count i (g .left (λ j k. all j (omega arith))) l (unit-read s here floor day there fine) in
               rw (eh ∙ ap (λ (x : UnitRecord). here + lengthOf x) is-here, ef ∙ ap (λ (x : UnitRecord). x .number + 1) is-here) next
 
     pub end : count ≤ i → Decoded s (toZ w32 p) class taken n0 down up
@@ -171,17 +172,17 @@ module _ (s : List ℕ) (run limit : ℕ) (class₀ taken₀ : List ℕ) (n0₀ 
           ups = fill-all _ _ _ i up h l (g .ups);
         }
 
-    pub ended : count ≤ i → ((j : ℕ) → j < count → Amounts s j) → unitsAt s run limit ≡ is here
+    pub ended : count ≤ i → ((j : ℕ) → j < count → Amounts s j) → unitsAt s day ≡ is here
     ended l all =
         let h = g .within in
-        sym (reading.end (units-steps s run limit) count i (g .left (λ j k. all j (omega arith))) l)
+        sym (reading.end (units-steps s day) count i (g .left (λ j k. all j (omega arith))) l)
 
 -- a reading that was broken off, and one that came to its end
-module _ (s : List ℕ) (run limit : ℕ) {r : Reading} {class taken : List ℕ} {n0 down up : List ℤ} where
-  pub broken : r .whole ≡ false → ((end : ℕ) → unitsAt s run limit ≡ is end → ⊥) → UnitsRead s run limit r class taken n0 down up
+module _ (s : List ℕ) (day : DayRecord) {r : Reading} {class taken : List ℕ} {n0 down up : List ℤ} where
+  pub broken : r .whole ≡ false → ((end : ℕ) → unitsAt s day ≡ is end → ⊥) → UnitsRead s day r class taken n0 down up
   broken w none =
       record { decoded = λ t. absurd (false≢true (sym w ∙ t)); ends = λ t all. absurd (false≢true (sym w ∙ t)); fails = λ _. none }
 
-  pub came : r .whole ≡ true → Decoded s (r .p .0) class taken n0 down up → (((i : ℕ) → i < blockCount s → Amounts s i) → unitsAt s run limit ≡ is (r .end))
-      → UnitsRead s run limit r class taken n0 down up
+  pub came : r .whole ≡ true → Decoded s (r .p .0) class taken n0 down up → (((i : ℕ) → i < blockCount s → Amounts s i) → unitsAt s day ≡ is (r .end))
+      → UnitsRead s day r class taken n0 down up
   came w d e = record { decoded = λ _. d; ends = λ _. e; fails = λ f. absurd (false≢true (sym f ∙ w)) }

@@ -4,6 +4,7 @@ use mathlib.Core.List.{List}
 use Rattle.terms.specs.Reply.{Reply, is, next}
 use Rattle.terms.specs.Refusals.{refusal, noRefusal}
 use Rattle.terms.specs.declared.refusal.Refusal.{Refusal}
+use Rattle.records.specs.declared.day.DayRecord.{DayRecord}
 use Rattle.records.specs.declared.group.GroupRecord.{GroupRecord}
 use Rattle.records.specs.Layouts.{groupLength}
 use Rattle.records.specs.Reading.{keyOf, unitsOf}
@@ -16,10 +17,10 @@ use Rattle.blocks.specs.declared.check.BlockAnswer.the-variants as B
 abbrev pub blockOf : GroupRecord → ℕ → Block
 blockOf group end = record { key = keyOf group; count = group .count; used = end; written = resultLength (group .count) }
 
--- each unit in turn, at a run minute and an age limit of margins
-unfoldable pub blockUnitsOf : List ℕ → GroupRecord → ℕ → ℕ → Reply Block
-blockUnitsOf s group run limit =
-    next (unitsOf s groupLength 0 run limit (group .count)) λ end.
+-- each unit in turn, judged by a day record
+unfoldable pub blockUnitsOf : List ℕ → GroupRecord → DayRecord → Reply Block
+blockUnitsOf s group day =
+    next (unitsOf s groupLength 0 day (group .count)) λ end.
     is (blockOf group end)
 
 -- an answer as a reply, and the refusal of an answer that is one

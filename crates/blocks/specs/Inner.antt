@@ -14,6 +14,7 @@ use Rattle.terms.specs.Checks.{mostUnits}
 use Rattle.group.specs.Group.{position}
 use Rattle.group.specs.Inner.{CutOff, faultsOf}
 use Rattle.group.specs.declared.judge.Cut.{Cut}
+use Rattle.records.specs.declared.day.DayRecord.{DayRecord}
 use Rattle.records.specs.declared.group.GroupRecord.{GroupRecord}
 use Rattle.records.specs.Layouts.{groupLength, unitResultLength, unitResultBytes, marginsOf}
 use Rattle.records.specs.Reading.{unitEnd, unitPlace, unitIn, unitsOf}
@@ -33,14 +34,13 @@ pub record Begun (s : List ℕ) : Type 0 where
   pub long : groupLength ≤ length s
   pub few : blockCount s ≤ mostUnits
 
--- a block whose units passed at some run and limit
+-- a block whose units passed, judged by some day record
 pub record Passed (s : List ℕ) : Type 0 where
-  pub run : ℕ
-  pub limit : ℕ
+  pub day : DayRecord
   pub end : ℕ
   pub long : groupLength ≤ length s
   pub few : blockCount s ≤ mostUnits
-  pub units : unitsOf s groupLength 0 run limit (blockCount s) ≡ is end
+  pub units : unitsOf s groupLength 0 day (blockCount s) ≡ is end
 
 -- columns of exactly so many entries
 pub record UnitRoom (count : ℕ) (class taken : List ℕ) (n0 down up : List ℤ) : Type 0 where
@@ -63,31 +63,31 @@ pub record Decoded (s : List ℕ) (p : ℤ) (class taken : List ℕ) (n0 down up
 abbrev pub Amounts : List ℕ → ℕ → Type 0
 Amounts s i = faultsOf (unitN0 (unitIn s i)) (marginsOf (unitIn s i)) ≡ 0
 
--- the units of a block, checked at a run minute and an age limit
-abbrev pub unitsAt : List ℕ → ℕ → ℕ → Reply ℕ
-unitsAt s run limit = unitsOf s groupLength 0 run limit (blockCount s)
+-- the units of a block, judged by a day record
+abbrev pub unitsAt : List ℕ → DayRecord → Reply ℕ
+unitsAt s day = unitsOf s groupLength 0 day (blockCount s)
 
 -- units read without a look at nominations and margins: where these pass too the block's units do; a reading that was broken off says that they do not
-pub record UnitsRead (s : List ℕ) (run limit : ℕ) (r : Reading) (class taken : List ℕ) (n0 down up : List ℤ) : Type 0 where
+pub record UnitsRead (s : List ℕ) (day : DayRecord) (r : Reading) (class taken : List ℕ) (n0 down up : List ℤ) : Type 0 where
   pub decoded : r .whole ≡ true → Decoded s (r .p .0) class taken n0 down up
-  pub ends : r .whole ≡ true → ((i : ℕ) → i < blockCount s → Amounts s i) → unitsAt s run limit ≡ is (r .end)
-  pub fails : r .whole ≡ false → (end : ℕ) → unitsAt s run limit ≡ is end → ⊥
+  pub ends : r .whole ≡ true → ((i : ℕ) → i < blockCount s → Amounts s i) → unitsAt s day ≡ is (r .end)
+  pub fails : r .whole ≡ false → (end : ℕ) → unitsAt s day ≡ is end → ⊥
 
 -- the units of a block, and their columns where they pass
-pub record UnitsTold (s : List ℕ) (run limit : ℕ) (r : Units) (class taken : List ℕ) (n0 down up : List ℤ) : Type 0 where
-  pub replied : answer (r .end) ≡ unitsAt s run limit
+pub record UnitsTold (s : List ℕ) (day : DayRecord) (r : Units) (class taken : List ℕ) (n0 down up : List ℤ) : Type 0 where
+  pub replied : answer (r .end) ≡ unitsAt s day
   pub decoded : (end : ℕ) → answer (r .end) ≡ is end → Decoded s (r .p .0) class taken n0 down up
 
 -- the same of a block
-pub record BlockTold (s : List ℕ) (group : GroupRecord) (run limit : ℕ) (r : Told) (class taken : List ℕ) (n0 down up : List ℤ) : Type 0 where
-  pub replied : blockReply (r .block) ≡ blockUnitsOf s group run limit
+pub record BlockTold (s : List ℕ) (group : GroupRecord) (day : DayRecord) (r : Told) (class taken : List ℕ) (n0 down up : List ℤ) : Type 0 where
+  pub replied : blockReply (r .block) ≡ blockUnitsOf s group day
   pub decoded : (block : Block) → blockReply (r .block) ≡ is block → Decoded s (r .p .0) class taken n0 down up
   pub passed : (block : Block) → blockReply (r .block) ≡ is block → Passed s
 
 -- a block's units, then 12, and its result in the room
-unfoldable pub unitsTaken : List ℕ → GroupRecord → ℕ → ℕ → ℕ → Reply Block
-unitsTaken s group run limit room =
-    next (blockUnitsOf s group run limit) λ block.
+unfoldable pub unitsTaken : List ℕ → GroupRecord → DayRecord → ℕ → Reply Block
+unitsTaken s group day room =
+    next (blockUnitsOf s group day) λ block.
     need (leb (block .written) room) 12 0
     (is block)
 
@@ -95,9 +95,9 @@ unfoldable pub blockAfter : Reply Block → List ℕ → List ℕ → List ℕ
 blockAfter (is block) bytes room = laidAt room 0 bytes
 blockAfter (refused number place) bytes room = room
 
-pub record Taking (s : List ℕ) (group : GroupRecord) (run limit : ℕ) (entry : List ℕ) (r : BlockAnswer) (exit : List ℕ) : Type 0 where
-  pub replied : blockReply r ≡ unitsTaken s group run limit (length entry)
-  pub room : exit ≡ blockAfter (unitsTaken s group run limit (length entry)) (blockResult s) entry
+pub record Taking (s : List ℕ) (group : GroupRecord) (day : DayRecord) (entry : List ℕ) (r : BlockAnswer) (exit : List ℕ) : Type 0 where
+  pub replied : blockReply r ≡ unitsTaken s group day (length entry)
+  pub room : exit ≡ blockAfter (unitsTaken s group day (length entry)) (blockResult s) entry
 
 -- a block after step 1, with what each unit loses in step 2, and room for its result
 pub record Cutting (s : List ℕ) (p : ℤ) (cut : Cut) (taken : List ℕ) (n0 x1 : List ℤ) (losses : List ℕ) (down up : List ℤ) (room : List ℕ) : Type 0 where

@@ -4,6 +4,7 @@ ghost use Rattle.records.specs.Layouts.{groupAt};
 ghost use Rattle.blocks.specs.Checking.{blockOf, blockReply, blockRefusal, blockUnitsOf};
 ghost use Rattle.blocks.specs.Inner.{Begun};
 use crate::decode::block_units;
+use records::day::DayRecord;
 use records::group::GroupRecord;
 use records::group_result::GroupResult;
 use records::key::Key;
@@ -54,9 +55,9 @@ impl BlockAnswer {
 }
 
 // The units of a block, checked, with columns that are lent to that alone.
-pub fn units_checked(s: &[u8], group: GroupRecord, run: u32, limit: u16) -> BlockAnswer
+pub fn units_checked(s: &[u8], group: GroupRecord, day: DayRecord) -> BlockAnswer
     requires { ⌜ Begun (now s) × (group ≡ groupAt (now s) 0) ⌝ }
-    ensures { λ r. ⌜ blockReply r ≡ blockUnitsOf (now (s .entry)) group run limit ⌝ }
+    ensures { λ r. ⌜ blockReply r ≡ blockUnitsOf (now (s .entry)) group day ⌝ }
 {
     let n = group.count as usize;
     let mut class = [0u8; 64];
@@ -67,8 +68,7 @@ pub fn units_checked(s: &[u8], group: GroupRecord, run: u32, limit: u16) -> Bloc
     let told = block_units(
         s,
         group,
-        run,
-        limit,
+        day,
         &mut class[..n],
         &mut taken[..n],
         &mut n0[..n],

@@ -8,6 +8,7 @@ ghost use Rattle.blocks.specs.Blocks.{blockCount};
 use crate::check::Block;
 use crate::check::BlockAnswer;
 use group::check::amounts_pass;
+use records::day::DayRecord;
 use records::faults::marks_pass;
 use records::group::GroupRecord;
 use records::unit::unit_fields;
@@ -39,8 +40,7 @@ fn broken_off() -> Reading
 // Class, n0 and margins of each unit, whether its nomination is implicit, by 1 or 0, and P. Nomination and margins are not looked at yet.
 fn read_into(
     s: &[u8],
-    run: u32,
-    limit: u16,
+    day: DayRecord,
     class: &mut [u8],
     taken: &mut [u32],
     n0: &mut [i32],
@@ -48,7 +48,7 @@ fn read_into(
     step_up: &mut [i32],
 ) -> Reading
     requires { ⌜ Begun (now s) × UnitRoom (blockCount (now s)) (now class) (now taken) (now n0) (now «step_down») (now «step_up») ⌝ }
-    ensures { λ r. ⌜ UnitsRead (now (s .entry)) run limit r (now (class .exit)) (now (taken .exit)) (now (n0 .exit)) (now («step_down» .exit)) (now («step_up» .exit)) ⌝ }
+    ensures { λ r. ⌜ UnitsRead (now (s .entry)) day r (now (class .exit)) (now (taken .exit)) (now (n0 .exit)) (now («step_down» .exit)) (now («step_up» .exit)) ⌝ }
 {
     let mut floor: u32 = 0;
     let mut here = GroupRecord::LEN;
@@ -59,7 +59,7 @@ fn read_into(
             return broken_off();
         }
         let u = unit_fields(s, here);
-        if !marks_pass(u, floor, run, limit) {
+        if !marks_pass(u, floor, day) {
             return broken_off();
         }
         let implicit = is_implicit(u.class, u.nominated, u.coincide);
@@ -94,8 +94,7 @@ struct Units {
 // The units of a block, read, and then a look at all nominations and margins. Which field is wrong is asked only once one is.
 fn units_into(
     s: &[u8],
-    run: u32,
-    limit: u16,
+    day: DayRecord,
     class: &mut [u8],
     taken: &mut [u32],
     n0: &mut [i32],
@@ -103,9 +102,9 @@ fn units_into(
     step_up: &mut [i32],
 ) -> Units
     requires { ⌜ Begun (now s) × UnitRoom (blockCount (now s)) (now class) (now taken) (now n0) (now «step_down») (now «step_up») ⌝ }
-    ensures { λ r. ⌜ UnitsTold (now (s .entry)) run limit r (now (class .exit)) (now (taken .exit)) (now (n0 .exit)) (now («step_down» .exit)) (now («step_up» .exit)) ⌝ }
+    ensures { λ r. ⌜ UnitsTold (now (s .entry)) day r (now (class .exit)) (now (taken .exit)) (now (n0 .exit)) (now («step_down» .exit)) (now («step_up» .exit)) ⌝ }
 {
-    let read = read_into(s, run, limit, class, taken, n0, step_down, step_up);
+    let read = read_into(s, day, class, taken, n0, step_down, step_up);
     let p = read.p;
     if read.whole && amounts_pass(n0, step_down, step_up) {
         return Units {
@@ -115,7 +114,7 @@ fn units_into(
     }
     Units {
         p: Position(0),
-        end: units_from(s, GroupRecord::LEN, n0.len(), run, limit),
+        end: units_from(s, GroupRecord::LEN, n0.len(), day),
     }
 }
 
@@ -129,8 +128,7 @@ pub struct Told {
 pub fn block_units(
     s: &[u8],
     group: GroupRecord,
-    run: u32,
-    limit: u16,
+    day: DayRecord,
     class: &mut [u8],
     taken: &mut [u32],
     n0: &mut [i32],
@@ -139,9 +137,9 @@ pub fn block_units(
 ) -> Told
     requires { ⌜ Begun (now s) × (group ≡ groupAt (now s) 0) ⌝ }
     requires { ⌜ UnitRoom (blockCount (now s)) (now class) (now taken) (now n0) (now «step_down») (now «step_up») ⌝ }
-    ensures { λ r. ⌜ BlockTold (now (s .entry)) group run limit r (now (class .exit)) (now (taken .exit)) (now (n0 .exit)) (now («step_down» .exit)) (now («step_up» .exit)) ⌝ }
+    ensures { λ r. ⌜ BlockTold (now (s .entry)) group day r (now (class .exit)) (now (taken .exit)) (now (n0 .exit)) (now («step_down» .exit)) (now («step_up» .exit)) ⌝ }
 {
-    let units = units_into(s, run, limit, class, taken, n0, step_down, step_up);
+    let units = units_into(s, day, class, taken, n0, step_down, step_up);
     let p = units.p;
     let u = units.end;
     let Answer::Is(end) = u else {

@@ -17,6 +17,7 @@ use group::judge::Cut;
 use group::judge::cut_all;
 use group::judge::steps_all;
 use group::judge::summed;
+use records::day::DayRecord;
 use records::group::GroupRecord;
 use terms::quantity::Position;
 use terms::refusal::Refusal;
@@ -70,8 +71,7 @@ fn write_passed(
 fn take_through(
     s: &[u8],
     group: GroupRecord,
-    run: u32,
-    limit: u16,
+    day: DayRecord,
     room: &mut [u8],
     class: &mut [u8],
     taken: &mut [u32],
@@ -84,9 +84,9 @@ fn take_through(
     requires { ⌜ Begun (now s) × (group ≡ groupAt (now s) 0) ⌝ }
     requires { ⌜ UnitRoom (blockCount (now s)) (now class) (now taken) (now n0) (now «step_down») (now «step_up») ⌝ }
     requires { ⌜ (length (now n1) ≡ blockCount (now s)) × (now losses ≡ zeros (blockCount (now s))) ⌝ }
-    ensures { λ r. ⌜ Taking (now (s .entry)) group run limit (now (room .entry)) r (now (room .exit)) ⌝ }
+    ensures { λ r. ⌜ Taking (now (s .entry)) group day (now (room .entry)) r (now (room .exit)) ⌝ }
 {
-    let told = block_units(s, group, run, limit, class, taken, n0, step_down, step_up);
+    let told = block_units(s, group, day, class, taken, n0, step_down, step_up);
     let b = told.block;
     let BlockAnswer::Is(block) = b else {
         return BlockAnswer::Refused(b.refusal());
@@ -113,15 +113,9 @@ fn take_through(
 }
 
 // The units of a block whose group record passed, and then 12; its result is written at the front of the room. Its columns take 1,600 bytes of stack.
-pub fn take_units(
-    s: &[u8],
-    group: GroupRecord,
-    run: u32,
-    limit: u16,
-    room: &mut [u8],
-) -> BlockAnswer
+pub fn take_units(s: &[u8], group: GroupRecord, day: DayRecord, room: &mut [u8]) -> BlockAnswer
     requires { ⌜ Begun (now s) × (group ≡ groupAt (now s) 0) ⌝ }
-    ensures { λ r. ⌜ Taking (now (s .entry)) group run limit (now (room .entry)) r (now (room .exit)) ⌝ }
+    ensures { λ r. ⌜ Taking (now (s .entry)) group day (now (room .entry)) r (now (room .exit)) ⌝ }
 {
     let n = group.count as usize;
     let mut class = [0u8; 64];
@@ -134,8 +128,7 @@ pub fn take_units(
     take_through(
         s,
         group,
-        run,
-        limit,
+        day,
         room,
         &mut class[..n],
         &mut taken[..n],

@@ -60,8 +60,8 @@ module _ (s t : List ℕ) (n : ℕ) (a : Agree s t n) where
   unfolding blockFieldsOf
   fields-kept day {block} h k e =
       let x = next-is _ _ e in
-      let m = made s (x .0) _ _ (x .1 .1) in
-      let u = block-alike s t n a (x .0) _ _ (omega (arith, ap (λ (b : Block). b .used) (m .value))) (m .passed) in
+      let m = made s (x .0) _ (x .1 .1) in
+      let u = block-alike s t n a (x .0) _ (omega (arith, ap (λ (b : Block). b .used) (m .value))) (m .passed) in
       onward _ _ (group-kept s t n a (day .«record») (day .last) h ∙ x .1 .0) (u ∙ x .1 .1)
 
   block-kept : (day : Day) (room : ℕ) {step : Step} → groupLength ≤ n → step .used ≤ n → blockTaken day s room ≡ is step → blockTaken day t room ≡ is step
@@ -101,7 +101,7 @@ fields-lie : (day : Day) (s : List ℕ) {block : Block} → groupLength ≤ leng
 fields-lie day s {block} h e =
     let r = read day s h e in
     let u = ap (λ (x : Block). x .used) (r .value) in
-    let k = units-accepted s groupLength 0 _ _ _ h (r .units) in
+    let k = units-accepted s groupLength 0 _ _ h (r .units) in
     record { from = omega (arith, place-from s groupLength (blockCount s)); inside = omega (arith, k .within) }
 
 module _ (day : Day) (s : List ℕ) (room : ℕ) {step : Step} where

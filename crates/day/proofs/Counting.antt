@@ -19,7 +19,7 @@ use Rattle.day.specs.Checking.{blockFieldsOf}
 
 module _ (day : Day) (s : List ℕ) (group : GroupRecord) (entry : List ℕ) (e : groupFieldsOf s (day .«record») (day .last) ≡ is group) where
   abbrev taking : Reply Block
-  taking = unitsTaken s group (day .«record» .run) (day .«record» .«margin_limit») (length entry)
+  taking = unitsTaken s group (day .«record») (length entry)
 
   -- the step that a block leaves
   abbrev left : Block → Step
@@ -37,4 +37,4 @@ module _ (day : Day) (s : List ℕ) (group : GroupRecord) (entry : List ℕ) (e 
 
   pub block-then : blockTaken day s (length entry) ≡ next taking (λ block. is (left block))
   unfolding blockTaken blockFieldsOf unitsTaken next
-  block-then = rw e (taken-then (blockUnitsOf s group (day .«record» .run) (day .«record» .«margin_limit»)) (length entry))
+  block-then = rw e (taken-then (blockUnitsOf s group (day .«record»)) (length entry))

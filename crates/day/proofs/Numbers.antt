@@ -45,16 +45,16 @@ module _ (day : Day) (s : List ℕ) where
 
   -- a block, by the numbers of its group record and of its units
   module _ (l : List ℕ) (after : allOf (isOf l) (12 ∷ afterUnits) ≡ true) (group : By l (groupFieldsOf s (day .«record») (day .last))) where
-    pub by-taken : ((g : GroupRecord) → groupFieldsOf s (day .«record») (day .last) ≡ is g → By l (unitsOf s groupLength 0 (day .«record» .run) (day .«record» .«margin_limit») (g .count)))
+    pub by-taken : ((g : GroupRecord) → groupFieldsOf s (day .«record») (day .last) ≡ is g → By l (unitsOf s groupLength 0 (day .«record») (g .count)))
         → (room : ℕ) → By l (blockTaken day s room)
     unfolding blockTaken blockFieldsOf
     by-taken units room =
         let b = and-both (isOf l 12) (allOf (isOf l) afterUnits) after in
-        by-next (by-next group (λ g e. by-block s g _ _ l (b .1) (units g e))) (λ block _. by-need _ 12 _ (b .0) (value _))
+        by-next (by-next group (λ g e. by-block s g _ l (b .1) (units g e))) (λ block _. by-need _ 12 _ (b .0) (value _))
 
   by-role : (room : ℕ) (role : Role) (end : ℕ) → By offerNumbers (taken day s room role end)
   by-role room Opens end = by-more dayNumbers offerNumbers refl (by-opens end)
-  by-role room Block end = by-taken offerNumbers refl (by-more groupNumbers offerNumbers refl (by-group s _ _)) (λ g _. by-more unitNumbers offerNumbers refl (by-units s _ _ _ _ _)) room
+  by-role room Block end = by-taken offerNumbers refl (by-more groupNumbers offerNumbers refl (by-group s _ _)) (λ g _. by-more unitNumbers offerNumbers refl (by-units s _ _ _ _)) room
   by-role room Closes end = by-more endNumbers offerNumbers refl (by-closes end)
 
   pub by-offer : (room : ℕ) → By offerNumbers (offerOf day s room)

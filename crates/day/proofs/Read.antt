@@ -21,26 +21,24 @@ use Rattle.day.specs.Checking.{blockFieldsOf}
 pub record Read (day : Day) (s : List ℕ) (block : Block) : Type 0 where
   pub group : groupFieldsOf s (day .«record») (day .last) ≡ is (groupAt s 0)
   pub passed : GroupPassed s (day .«record») (day .last) (groupAt s 0)
-  pub units : unitsOf s groupLength 0 (day .«record» .run) (day .«record» .«margin_limit») (blockCount s) ≡ is (unitPlace s (blockCount s))
+  pub units : unitsOf s groupLength 0 (day .«record») (blockCount s) ≡ is (unitPlace s (blockCount s))
   pub value : block ≡ blockOf (groupAt s 0) (unitPlace s (blockCount s))
   pub accepted : Accepted (blockGroup s)
 
 pub read : (day : Day) (s : List ℕ) {block : Block} → groupLength ≤ length s → blockFieldsOf day s ≡ is block → Read day s block
 unfolding blockFieldsOf
 read day s {block} long e =
-    let run = day .«record» .run in
-    let limit = day .«record» .«margin_limit» in
     let a = next-is _ _ e in
     let v = group-passed s (day .«record») (day .last) (a .1 .0) .value in
     let group : groupFieldsOf s (day .«record») (day .last) ≡ is (groupAt s 0) = a .1 .0 ∙ ap is v in
     let passed = group-passed s (day .«record») (day .last) group in
-    let whole : blockUnitsOf s (groupAt s 0) run limit ≡ is block = rw v at (a .1 .1) in
-    let m = made s (groupAt s 0) run limit whole in
-    let end = block-end s run limit (blockCount s) long (m .passed) in
+    let whole : blockUnitsOf s (groupAt s 0) (day .«record») ≡ is block = rw v at (a .1 .1) in
+    let m = made s (groupAt s 0) (day .«record») whole in
+    let end = block-end s (day .«record») (blockCount s) long (m .passed) in
     record {
       group = group;
       passed = passed;
       units = m .passed ∙ ap is end;
       value = m .value ∙ rw end;
-      accepted = units-accepted s run limit (blockCount s) long (passed .most) (m .passed);
+      accepted = units-accepted s (day .«record») (blockCount s) long (passed .most) (m .passed);
     }

@@ -11,6 +11,7 @@ use lib.Seq.{take-append-le}
 use Rattle.numbers.specs.Bytes.{byteAt}
 use Rattle.terms.specs.Reply.{Reply, is, refused, need, next}
 use Rattle.terms.proofs.Numbers.{each, By, value, number, by-more, by-without, by-need, by-sure, by-next}
+use Rattle.records.specs.declared.day.DayRecord.{DayRecord}
 use Rattle.records.specs.declared.group.GroupRecord.{GroupRecord}
 use Rattle.records.specs.declared.unit.UnitRecord.{UnitRecord}
 use Rattle.records.specs.Layouts.{groupLength, unitAt, lengthOf, longestUnit}
@@ -74,35 +75,35 @@ module _ (s t : List ℕ) (a : Agree s t (length s)) where
   unit-head-stands : (at : ℕ) → Stands (unitHeadOf s at) (unitHeadOf t at)
   unit-head-stands at c = unit-longer s t at (a .long) (a .same at) (not-by-1 (unitHeadOf s at) c)
 
-  unit-stands : (at floor run limit : ℕ) → Stands (unitOf s at floor run limit) (unitOf t at floor run limit)
+  unit-stands : (at floor : ℕ) (d : DayRecord) → Stands (unitOf s at floor d) (unitOf t at floor d)
   unfolding unitOf unitFieldsOf
-  unit-stands at floor run limit = then _ _ _ _ (unit-head-stands at) λ end e c. rw (unit-same at (read-long s at e))
+  unit-stands at floor d = then _ _ _ _ (unit-head-stands at) λ end e c. rw (unit-same at (read-long s at e))
 
-  units-stand : (at floor run limit count : ℕ) → Stands (unitsOf s at floor run limit count) (unitsOf t at floor run limit count)
+  units-stand : (at floor : ℕ) (d : DayRecord) (count : ℕ) → Stands (unitsOf s at floor d count) (unitsOf t at floor d count)
   unfolding unitsOf
-  units-stand at floor run limit zero = λ c. refl
-  units-stand at floor run limit (suc left) =
-      then _ _ _ _ (unit-stands at floor run limit) λ u e c.
-      let k : unitEnd t at ≡ unitEnd s at = ap (λ (v : UnitRecord). at + lengthOf v) (unit-same at (unit-long s at floor run limit e)) in
-      ap (λ (to : ℕ). unitsOf t to (u .number + 1) run limit left) k ∙ units-stand (unitEnd s at) (u .number + 1) run limit left c
+  units-stand at floor d zero = λ c. refl
+  units-stand at floor d (suc left) =
+      then _ _ _ _ (unit-stands at floor d) λ u e c.
+      let k : unitEnd t at ≡ unitEnd s at = ap (λ (v : UnitRecord). at + lengthOf v) (unit-same at (unit-long s at floor d e)) in
+      ap (λ (to : ℕ). unitsOf t to (u .number + 1) d left) k ∙ units-stand (unitEnd s at) (u .number + 1) d left c
 
   -- ---- what is offered
-  block-units-stand : (g : GroupRecord) (run limit : ℕ) → groupLength ≤ length s → Stands (blockUnitsOf s g run limit) (blockUnitsOf t g run limit)
-  block-units-stand g run limit h c = go (unitsOf s groupLength 0 run limit (g .count)) refl
+  block-units-stand : (g : GroupRecord) (d : DayRecord) → groupLength ≤ length s → Stands (blockUnitsOf s g d) (blockUnitsOf t g d)
+  block-units-stand g d h c = go (unitsOf s groupLength 0 d (g .count)) refl
     where
-      go : (x : Reply ℕ) → unitsOf s groupLength 0 run limit (g .count) ≡ x → blockUnitsOf t g run limit ≡ blockUnitsOf s g run limit
-      go (is end) e = block-alike s t (length s) a g run limit (units-accepted s groupLength 0 run limit (g .count) h e .within) e
+      go : (x : Reply ℕ) → unitsOf s groupLength 0 d (g .count) ≡ x → blockUnitsOf t g d ≡ blockUnitsOf s g d
+      go (is end) e = block-alike s t (length s) a g d (units-accepted s groupLength 0 d (g .count) h e .within) e
       go (refused n p) e =
-          let r = units-refuse s g run limit e in
-          let u = units-stand groupLength 0 run limit (g .count) (ap cutShort e ∙ sym (ap cutShort r) ∙ c) in
-          units-refuse t g run limit (u ∙ e) ∙ sym r
+          let r = units-refuse s g d e in
+          let u = units-stand groupLength 0 d (g .count) (ap cutShort e ∙ sym (ap cutShort r) ∙ c) in
+          units-refuse t g d (u ∙ e) ∙ sym r
 
   block-stands : (day : Day) (room : ℕ) → groupLength ≤ length s → Stands (blockTaken day s room) (blockTaken day t room)
   unfolding blockTaken blockFieldsOf
   block-stands day room h =
       then _ _ _ _
       (rw (group-kept s t (length s) a (day .«record») (day .last) h)
-      (then _ _ _ _ (λ c. refl) λ g e. block-units-stand g (day .«record» .run) (day .«record» .«margin_limit») h))
+      (then _ _ _ _ (λ c. refl) λ g e. block-units-stand g (day .«record») h))
       λ block e c. refl
 
   taken-stands : (day : Day) (room : ℕ) (role : Role) (end : ℕ) → lengthIn role s 0 ≤ length s → Stands (taken day s room role end) (taken day t room role end)
@@ -139,16 +140,16 @@ offer-stands day s t room =
 
 -- ---- with as many bytes as the longest block has, nothing is cut short
 module _ (s : List ℕ) where
-  unit-enough : (at floor run limit : ℕ) → at + longestUnit ≤ length s → By uncutNumbers (unitOf s at floor run limit)
-  unit-enough at floor run limit h =
-      by-unit s uncutNumbers at floor run limit refl (by-more (2 ∷ []) uncutNumbers refl (by-without 1 (2 ∷ []) (unit-there s at h) (by-head s at _ _)))
+  unit-enough : (at floor : ℕ) (d : DayRecord) → at + longestUnit ≤ length s → By uncutNumbers (unitOf s at floor d)
+  unit-enough at floor d h =
+      by-unit s uncutNumbers at floor d refl (by-more (2 ∷ []) uncutNumbers refl (by-without 1 (2 ∷ []) (unit-there s at h) (by-head s at _ _)))
 
-  units-enough : (at floor run limit count : ℕ) → at + longestUnit * count ≤ length s → By uncutNumbers (unitsOf s at floor run limit count)
+  units-enough : (at floor : ℕ) (d : DayRecord) (count : ℕ) → at + longestUnit * count ≤ length s → By uncutNumbers (unitsOf s at floor d count)
   unfolding unitsOf
-  units-enough at floor run limit zero h = value at
-  units-enough at floor run limit (suc left) h =
-      by-next (unit-enough at floor run limit (omega arith)) λ u e.
-      units-enough (unitEnd s at) (u .number + 1) run limit left (omega (arith, unit-most s at))
+  units-enough at floor d zero h = value at
+  units-enough at floor d (suc left) h =
+      by-next (unit-enough at floor d (omega arith)) λ u e.
+      units-enough (unitEnd s at) (u .number + 1) d left (omega (arith, unit-most s at))
 
   module _ (most : longestBlock ≤ length s) (day : Day) (room : ℕ) where
     taken-enough : (role : Role) (end : ℕ) → By uncutNumbers (taken day s room role end)
@@ -157,7 +158,7 @@ module _ (s : List ℕ) where
         by-taken day s uncutNumbers refl (by-more groupNumbers uncutNumbers refl (by-group s _ _))
         (λ g e.
         let p = group-passed s (day .«record») (day .last) e in
-        units-enough groupLength 0 _ _ (g .count) (omega (arith, p .most, ap (λ (x : GroupRecord). x .count) (p .value))))
+        units-enough groupLength 0 _ (g .count) (omega (arith, p .most, ap (λ (x : GroupRecord). x .count) (p .value))))
         room
     taken-enough R.Closes end = by-more endNumbers uncutNumbers refl (by-closes day s end)
 

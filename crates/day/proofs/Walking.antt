@@ -9,6 +9,7 @@ use lib.Seq.{getD-append-add}
 use Rattle.numbers.specs.Bytes.{byteAt}
 use Rattle.terms.specs.Reply.{is, need, next}
 use Rattle.terms.proofs.Replies.{next-is}
+use Rattle.records.specs.declared.day.DayRecord.{DayRecord}
 use Rattle.records.specs.Layouts.{groupLength, groupCount, groupAt}
 use Rattle.records.specs.Reading.{unitHeadOf, unitEnd, dayFieldsOf, endFieldsOf, unitOf, unitsOf}
 use Rattle.records.proofs.UnitHeads.{unit-past, read-end, read-long, unit-moved}
@@ -48,16 +49,16 @@ module _ (t : List ℕ) (at : ℕ) (s : List ℕ) (a : Stand t at s) where
       let k : at + from + (end - from) ≡ at + end = omega arith in
       unit-moved s t from (at + from) (a .same from (omega arith)) (end - from) (e ∙ ap is m) (omega (arith, a .fits)) ∙ ap is k
 
-  units-there : (from floor run limit count : ℕ) {end : ℕ} → unitsOf s from floor run limit count ≡ is end → headsOf t (at + from) count ≡ is (at + end)
+  units-there : (from floor : ℕ) (d : DayRecord) (count : ℕ) {end : ℕ} → unitsOf s from floor d count ≡ is end → headsOf t (at + from) count ≡ is (at + end)
   unfolding unitsOf unitOf headsOf next
-  units-there from floor run limit zero {end} e =
+  units-there from floor d zero {end} e =
       let q : from ≡ end = cc e in
       rw q
-  units-there from floor run limit (suc count) {end} e =
-      let u = next-is (unitOf s from floor run limit) (λ u. unitsOf s (unitEnd s from) (u .number + 1) run limit count) e in
+  units-there from floor d (suc count) {end} e =
+      let u = next-is (unitOf s from floor d) (λ u. unitsOf s (unitEnd s from) (u .number + 1) d count) e in
       let h = next-is _ _ (u .1 .0) in
       let q : unitHeadOf s from ≡ is (unitEnd s from) = h .1 .0 ∙ ap is (read-end s from (h .1 .0)) in
-      rw (unit-there from q) (units-there (unitEnd s from) (u .0 .number + 1) run limit count (u .1 .1))
+      rw (unit-there from q) (units-there (unitEnd s from) (u .0 .number + 1) d count (u .1 .1))
 
   -- a record that comes alone comes there
   record-there : (state : State) {h : Head} → headIn s 0 state ≡ is h → headIn t at state ≡ headed (h .role) (at + h .end)
@@ -76,7 +77,7 @@ module _ (t : List ℕ) (at : ℕ) (s : List ℕ) (a : Stand t at s) where
     unfolding blockEndOf need
     block-there e =
         let b = read day s long e in
-        rw (count-there, b .passed .counted, b .value) (units-there groupLength 0 _ _ _ (b .units))
+        rw (count-there, b .passed .counted, b .value) (units-there groupLength 0 _ _ (b .units))
 
 -- the front part of the rest of a day stands where the rest begins
 stand : (pre s post : List ℕ) → Stand (pre ++ (s ++ post)) (length pre) s

@@ -98,5 +98,5 @@ module _ {entry exit : List ℕ} {r : Answer} {n : ℕ} (done : answer r ≡ is 
   block-written brp zone quarter made c w day room p q joins aged h =
       let t = block-taken brp zone quarter made c done w (day .«record») (day .last) joins aged in
       let a = group-read exit (day .«record») (day .last) (t .0) in
-      let fields : blockFieldsOf day exit ≡ is (blockOf (groupOver brp zone quarter made c) n) = rw (a .fields) (units-pass exit _ _ _ (t .1)) in
+      let fields : blockFieldsOf day exit ≡ is (blockOf (groupOver brp zone quarter made c) n) = rw (a .fields) (units-pass exit _ _ (t .1)) in
       block-fits day exit (rw p q) p room (a .head) fields h

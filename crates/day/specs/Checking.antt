@@ -16,7 +16,7 @@ use Rattle.day.specs.Days.{possible}
 unfoldable pub blockFieldsOf : Day → List ℕ → Reply Block
 blockFieldsOf day s =
     next (groupFieldsOf s (day .«record») (day .last)) λ group.
-    blockUnitsOf s group (day .«record» .run) (day .«record» .«margin_limit»)
+    blockUnitsOf s group (day .«record»)
 
 -- the head of a block, for a day: 1 if empty, 2, 1; any other record is 2
 unfoldable pub blockHeadFor : Day → List ℕ → Reply Head

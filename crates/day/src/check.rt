@@ -24,7 +24,7 @@ fn block_fields(day: Day, s: &[u8]) -> BlockAnswer
     let GroupAnswer::Is(group) = g else {
         return BlockAnswer::Refused(g.refusal());
     };
-    units_checked(s, group, record.run, record.margin_limit)
+    units_checked(s, group, record)
 }
 
 // Whether a block may come, as the next one of a day.

@@ -84,7 +84,7 @@ fn take_block(day: Day, s: &[u8], room: &mut [u8]) -> Offered
     let GroupAnswer::Is(group) = g else {
         return Offered::Refused(g.refusal(), day);
     };
-    let b = take_units(s, group, record.run, record.margin_limit, room);
+    let b = take_units(s, group, record, room);
     let BlockAnswer::Is(block) = b else {
         return Offered::Refused(b.refusal(), day);
     };

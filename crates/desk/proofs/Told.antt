@@ -54,7 +54,7 @@ by-alone : (d : DayRecord) (s : List ℕ) (room : ℕ) → By callNumbers (block
 unfolding blockOfferOf
 by-alone d s room =
     by-next (by-more headNumbers callNumbers refl (by-block-head (opened d) s))
-    (λ _ _. by-taken (opened d) s callNumbers refl (by-more firstNumbers callNumbers refl (by-first s d)) (λ g _. by-more unitNumbers callNumbers refl (by-units s _ _ _ _ _)) room)
+    (λ _ _. by-taken (opened d) s callNumbers refl (by-more firstNumbers callNumbers refl (by-first s d)) (λ g _. by-more unitNumbers callNumbers refl (by-units s _ _ _ _)) room)
 
 by-call : (day s : List ℕ) (room : ℕ) → By callNumbers (callOf day s room)
 unfolding callOf dayOf

@@ -11,6 +11,7 @@ use Rattle.terms.specs.declared.refusal.Checked.{Checked}
 use Rattle.terms.specs.declared.refusal.Checked.the-variants.{Fine, Faulty}
 use Rattle.terms.proofs.Replies.{never}
 use Rattle.terms.proofs.Numbers.{isOf, by-each}
+use Rattle.records.specs.declared.day.DayRecord.{DayRecord}
 use Rattle.records.specs.declared.unit.UnitRecord.{UnitRecord}
 use Rattle.records.specs.Layouts.{unitAt}
 use Rattle.records.specs.Reading.{unitHeadOf, unitEnd, placeFrom, faultPlace, unitFaults, unitFieldsOf, unitOf, unitsOf}
@@ -37,7 +38,7 @@ either (after a h k) f g = g a h k
 
 -- a refusal of a unit's field: no head has its number
 module _ (n p : ℕ) (other : isOf headNumbers n ≡ true → ⊥) where
-  pub record Faulted (s : List ℕ) (at floor run limit : ℕ) : Type 0 where
+  pub record Faulted (s : List ℕ) (at floor : ℕ) (d : DayRecord) : Type 0 where
     pub fault : Fault
     pub end : ℕ
     pub head : unitHeadOf s at ≡ is end
@@ -45,47 +46,47 @@ module _ (n p : ℕ) (other : isOf headNumbers n ≡ true → ⊥) where
     pub place : p ≡ at + faultPlace fault
     pub within : p < unitEnd s at
 
-  checks-no : (s : List ℕ) (at floor run limit end : ℕ) → unitHeadOf s at ≡ is end → (checks : Checked) → unitFaults (unitAt s at) floor run limit ≡ checks
-      → _≡_ {A = Reply UnitRecord} (passed (λ fault. at + faultPlace fault) checks (is (unitAt s at))) (refused n p) → Faulted s at floor run limit
+  checks-no : (s : List ℕ) (at floor : ℕ) (d : DayRecord) (end : ℕ) → unitHeadOf s at ≡ is end → (checks : Checked) → unitFaults (unitAt s at) floor d ≡ checks
+      → _≡_ {A = Reply UnitRecord} (passed (λ fault. at + faultPlace fault) checks (is (unitAt s at))) (refused n p) → Faulted s at floor d
   unfolding passed
-  checks-no s at floor run limit end h Fine c e = never (sym e)
-  checks-no s at floor run limit end h (Faulty fault) c e =
+  checks-no s at floor d end h Fine c e = never (sym e)
+  checks-no s at floor d end h (Faulty fault) c e =
       let a : numberOf (whyOf fault) ≡ n = cc in
       let b : at + faultPlace fault ≡ p = cc in
-      record { fault = fault; end = end; head = h; number = sym a; place = sym b; within = omega (arith, place-inside (unitAt s at) floor run limit fault c) }
+      record { fault = fault; end = end; head = h; number = sym a; place = sym b; within = omega (arith, place-inside (unitAt s at) floor d fault c) }
 
-  unit-no : (s : List ℕ) (at floor run limit : ℕ) → unitOf s at floor run limit ≡ refused n p → Faulted s at floor run limit
+  unit-no : (s : List ℕ) (at floor : ℕ) (d : DayRecord) → unitOf s at floor d ≡ refused n p → Faulted s at floor d
   unfolding unitOf unitFieldsOf
-  unit-no s at floor run limit e = go (next-from (unitHeadOf s at) (λ _. unitFieldsOf s at floor run limit) e)
+  unit-no s at floor d e = go (next-from (unitHeadOf s at) (λ _. unitFieldsOf s at floor d) e)
     where
-      go : From (unitHeadOf s at) (λ _. unitFieldsOf s at floor run limit) n p → Faulted s at floor run limit
+      go : From (unitHeadOf s at) (λ _. unitFieldsOf s at floor d) n p → Faulted s at floor d
       go (front h) = absurd (other (by-each (isOf headNumbers) headNumbers refl (by-head s at _ _) h))
-      go (after end h f) = checks-no s at floor run limit end h (unitFaults (unitAt s at) floor run limit) refl f
+      go (after end h f) = checks-no s at floor d end h (unitFaults (unitAt s at) floor d) refl f
 
   -- the first that fails, of units that are not all accepted
-  pub record First (s : List ℕ) (at floor run limit left : ℕ) : Type 0 where
+  pub record First (s : List ℕ) (at floor : ℕ) (d : DayRecord) (left : ℕ) : Type 0 where
     pub index : ℕ
     pub fault : Fault
     pub end : ℕ
     pub counted : index < left
-    pub pass : unitsOf s at floor run limit index ≡ is (placeFrom s at index)
-    pub fails : unitsOf s at floor run limit (suc index) ≡ refused n p
+    pub pass : unitsOf s at floor d index ≡ is (placeFrom s at index)
+    pub fails : unitsOf s at floor d (suc index) ≡ refused n p
     pub head : unitHeadOf s (placeFrom s at index) ≡ is end
     pub number : n ≡ numberOf (whyOf fault)
     pub place : p ≡ placeFrom s at index + faultPlace fault
     pub within : p < unitEnd s (placeFrom s at index)
 
-  pub first : (s : List ℕ) (at floor run limit left : ℕ) → unitsOf s at floor run limit left ≡ refused n p → First s at floor run limit left
+  pub first : (s : List ℕ) (at floor : ℕ) (d : DayRecord) (left : ℕ) → unitsOf s at floor d left ≡ refused n p → First s at floor d left
   unfolding unitsOf placeFrom next
-  first s at floor run limit zero e = never (sym e)
-  first s at floor run limit (suc left) e =
-      go (next-from (unitOf s at floor run limit) (λ u. unitsOf s (unitEnd s at) (u .number + 1) run limit left) e) (λ u. first s (unitEnd s at) (u .number + 1) run limit left)
+  first s at floor d zero e = never (sym e)
+  first s at floor d (suc left) e =
+      go (next-from (unitOf s at floor d) (λ u. unitsOf s (unitEnd s at) (u .number + 1) d left) e) (λ u. first s (unitEnd s at) (u .number + 1) d left)
     where
-      go : From (unitOf s at floor run limit) (λ u. unitsOf s (unitEnd s at) (u .number + 1) run limit left) n p
-          → ((u : UnitRecord) → unitsOf s (unitEnd s at) (u .number + 1) run limit left ≡ refused n p → First s (unitEnd s at) (u .number + 1) run limit left)
-          → First s at floor run limit (suc left)
+      go : From (unitOf s at floor d) (λ u. unitsOf s (unitEnd s at) (u .number + 1) d left) n p
+          → ((u : UnitRecord) → unitsOf s (unitEnd s at) (u .number + 1) d left ≡ refused n p → First s (unitEnd s at) (u .number + 1) d left)
+          → First s at floor d (suc left)
       go (front h) rest =
-          let f = unit-no s at floor run limit h in
+          let f = unit-no s at floor d h in
           record {
             index = 0;
             fault = f .fault;

@@ -128,13 +128,13 @@ module _ (day : Day) (s : List ℕ) (n p : ℕ) (own : ofUnit (whyBy n) ≡ true
   not-of l e k = no {A = ℕ} l e (number n p k) refl
 
   abbrev units : Reply ℕ
-  units = unitsOf s L.groupLength 0 (day .«record» .run) (day .«record» .«margin_limit») (L.groupAt s 0 .count)
+  units = unitsOf s L.groupLength 0 (day .«record») (L.groupAt s 0 .count)
 
   fields-first : blockFieldsOf day s ≡ refused n p → units ≡ refused n p
   unfolding blockFieldsOf
   fields-first e =
       either (next-from (groupFieldsOf s (day .«record») (day .last)) _ e) (λ h. absurd (no groupNumbers refl (by-group s _ _) h))
-      (λ g h f. unmade s (L.groupAt s 0) _ _ (not-of afterUnits refl) (rw (group-passed s (day .«record») (day .last) h .value) at f))
+      (λ g h f. unmade s (L.groupAt s 0) _ (not-of afterUnits refl) (rw (group-passed s (day .«record») (day .last) h .value) at f))
 
   block-first : (room : ℕ) → blockTaken day s room ≡ refused n p → units ≡ refused n p
   unfolding blockTaken
@@ -167,12 +167,6 @@ module _ (day : Day) (s : List ℕ) (r : Refusal) where
       let z : suc k - 1 ≡ k = omega arith in
       rw z
 
-  abbrev run : ℕ
-  run = day .«record» .run
-
-  abbrev limit : ℕ
-  limit = day .«record» .«margin_limit»
-
   spot-found : groupWhole s ≡ true → L.groupLength ≤ r .place → spotOf s (r .place) ≡ spotFrom s (r .place) 0 L.groupLength L.groupLength (L.groupAt s 0 .count)
   unfolding spotOf
   spot-found w l = simp (w, le-leb L.groupLength (r .place) l)
@@ -189,7 +183,7 @@ module _ (day : Day) (s : List ℕ) (r : Refusal) where
       let e = row day s (unitPlace s i) (unitPlace s (i - 1)) fault (r .place) (omega (arith, place)) in
       rw (spot, why, e, hand)
 
-  by-first : (other : isOf headNumbers (numberOf (r .why)) ≡ true → ⊥) → groupWhole s ≡ true → First (numberOf (r .why)) (r .place) other s L.groupLength 0 run limit (L.groupAt s 0 .count) → Plant day s r
+  by-first : (other : isOf headNumbers (numberOf (r .why)) ≡ true → ⊥) → groupWhole s ≡ true → First (numberOf (r .why)) (r .place) other s L.groupLength 0 (day .«record») (L.groupAt s 0 .count) → Plant day s r
   by-first other whole f =
       let i = f .index in
       let at = unitPlace s i in
@@ -216,4 +210,4 @@ module _ (day : Day) (s : List ℕ) (r : Refusal) where
       let own = ap ofUnit (why-back (r .why)) ∙ u in
       let f = reached day s (numberOf (r .why)) (r .place) own room e in
       let other = not-of day s (numberOf (r .why)) (r .place) own headNumbers refl in
-      by-first other (f .whole) (first (numberOf (r .why)) (r .place) other s L.groupLength 0 run limit (L.groupAt s 0 .count) (f .refusing))
+      by-first other (f .whole) (first (numberOf (r .why)) (r .place) other s L.groupLength 0 (day .«record») (L.groupAt s 0 .count) (f .refusing))

@@ -76,8 +76,8 @@ pub record Plant (day : Day) (s : List ℕ) (r : Refusal) : Type 0 where
   pub index : ℕ
   pub fault : Fault
   pub counted : index < L.groupAt s 0 .count
-  pub pass : unitsOf s L.groupLength 0 (day .«record» .run) (day .«record» .«margin_limit») index ≡ is (unitPlace s index)
-  pub fails : unitsOf s L.groupLength 0 (day .«record» .run) (day .«record» .«margin_limit») (suc index) ≡ refusal r
+  pub pass : unitsOf s L.groupLength 0 (day .«record») index ≡ is (unitPlace s index)
+  pub fails : unitsOf s L.groupLength 0 (day .«record») (suc index) ≡ refusal r
   pub why : r .why ≡ whyOf fault
   pub place : r .place ≡ unitPlace s index + faultPlace fault
   pub field : unitLayout (faultField fault) .place ≡ faultPlace fault

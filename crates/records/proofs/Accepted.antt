@@ -19,6 +19,7 @@ use Rattle.terms.specs.Checks.{inRange, marginChecks, amountChecks}
 use Rattle.terms.specs.declared.refusal.Checked.the-variants.{Fine}
 use Rattle.terms.proofs.Replies.{next-is}
 use Rattle.terms.proofs.Passing.{passes}
+use Rattle.records.specs.declared.day.DayRecord.{DayRecord}
 use Rattle.records.specs.declared.unit.UnitRecord.{UnitRecord}
 use Rattle.records.specs.Layouts.{groupLength, unitAt, marginsOf}
 use Rattle.records.specs.Reading.{unitEnd, placeFrom, unitPlace, unitIn, unitFieldsOf, unitOf, unitsOf, unitFaults, valueFaults, markFaults}
@@ -84,16 +85,16 @@ sound u floor e =
     }
 
 -- a unit that was read is that of the layout, and passed
-pub unit-is : (s : List ℕ) (at floor run limit : ℕ) {u : UnitRecord} → unitOf s at floor run limit ≡ is u
-    → (unitFaults (unitAt s at) floor run limit ≡ Fine) × (u ≡ unitAt s at)
+pub unit-is : (s : List ℕ) (at floor : ℕ) (day : DayRecord) {u : UnitRecord} → unitOf s at floor day ≡ is u
+    → (unitFaults (unitAt s at) floor day ≡ Fine) × (u ≡ unitAt s at)
 unfolding unitOf unitFieldsOf
-unit-is s at floor run limit e =
+unit-is s at floor day e =
     let p = passed-is _ _ _ (next-is _ _ e .1 .1) in
     (p .0, cc (p .1))
 
-pub unit-sound : (s : List ℕ) (at floor run limit : ℕ) {u : UnitRecord} → unitOf s at floor run limit ≡ is u → Sound (unitAt s at)
+pub unit-sound : (s : List ℕ) (at floor : ℕ) (day : DayRecord) {u : UnitRecord} → unitOf s at floor day ≡ is u → Sound (unitAt s at)
 unfolding unitFaults
-unit-sound s at floor run limit e = sound _ floor (also-fine _ _ (unit-is s at floor run limit e .0) .0)
+unit-sound s at floor day e = sound _ floor (also-fine _ _ (unit-is s at floor day e .0) .0)
 
 -- units that were accepted from a place on
 pub record Accepted (s : List ℕ) (at count end : ℕ) : Type 0 where
@@ -101,18 +102,18 @@ pub record Accepted (s : List ℕ) (at count end : ℕ) : Type 0 where
   pub within : end ≤ length s
   pub each : (i : ℕ) → i < count → Sound (unitAt s (placeFrom s at i))
 
-pub units-accepted : (s : List ℕ) (at floor run limit count : ℕ) {end : ℕ} → at ≤ length s → unitsOf s at floor run limit count ≡ is end → Accepted s at count end
+pub units-accepted : (s : List ℕ) (at floor : ℕ) (day : DayRecord) (count : ℕ) {end : ℕ} → at ≤ length s → unitsOf s at floor day count ≡ is end → Accepted s at count end
 unfolding unitsOf placeFrom
-units-accepted s at floor run limit zero {end} l e =
+units-accepted s at floor day zero {end} l e =
     let h : at ≡ end = cc in
     record { ends = rw h; within = rw (← h) l; each = λ i l. absurd (not-suc-le-zero l) }
-units-accepted s at floor run limit (suc count) {end} l e =
+units-accepted s at floor day (suc count) {end} l e =
     let a = next-is _ _ e in
-    let rest = units-accepted s (unitEnd s at) (a .0 .number + 1) run limit count (unit-long s at floor run limit (a .1 .0)) (a .1 .1) in
+    let rest = units-accepted s (unitEnd s at) (a .0 .number + 1) day count (unit-long s at floor day (a .1 .0)) (a .1 .1) in
     record {
       ends = rest .ends ∙ place-later s at count;
       within = rest .within;
-      each = each (unit-sound s at floor run limit (a .1 .0)) (rest .each);
+      each = each (unit-sound s at floor day (a .1 .0)) (rest .each);
     }
   where
     each : Sound (unitAt s at) → ((i : ℕ) → i < count → Sound (unitAt s (placeFrom s (unitEnd s at) i))) → (i : ℕ) → i < suc count → Sound (unitAt s (placeFrom s at i))
@@ -120,9 +121,9 @@ units-accepted s at floor run limit (suc count) {end} l e =
     each first rest (suc i) l = rw (← (place-later s at i)) (rest i (omega arith))
 
 -- a block whose units were accepted
-module _ (s : List ℕ) (run limit count : ℕ) {end : ℕ} (long : groupLength ≤ length s) (e : unitsOf s groupLength 0 run limit count ≡ is end) where
+module _ (s : List ℕ) (day : DayRecord) (count : ℕ) {end : ℕ} (long : groupLength ≤ length s) (e : unitsOf s groupLength 0 day count ≡ is end) where
   all : Accepted s groupLength count end
-  all = units-accepted s groupLength 0 run limit count long e
+  all = units-accepted s groupLength 0 day count long e
 
   pub unit-in : (i : ℕ) → i < count → Sound (unitIn s i)
   unit-in = all .each

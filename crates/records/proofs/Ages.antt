@@ -120,7 +120,7 @@ early-fine fault e =
     let z : _≡_ {A = ℕ} 0 1 = cc in
     absurd (omega arith)
 
-module _ (u : UnitRecord) (floor run limit : ℕ) where
+module _ (u : UnitRecord) (floor : ℕ) (day : DayRecord) where
   values-early : Early (valueFaults u floor)
   unfolding valueFaults markFaults amountChecks marginChecks
   values-early =
@@ -130,31 +130,31 @@ module _ (u : UnitRecord) (floor run limit : ℕ) where
       (early-check _ F.N _ refl (early-check _ F.Pc _ refl (early-check _ F.StepDown _ refl
       (early-check _ F.StepUp _ refl (early-check _ F.Crossed _ refl early-fine)))))
 
-  by-margins : (fault : Fault) → ofAge fault ≡ true → unitFaults u floor run limit ≡ Faulty fault
-      → (aged run (u .made) limit ≡ false) × (marginFault run (u .made) ≡ fault)
+  by-margins : (fault : Fault) → ofAge fault ≡ true → unitFaults u floor day ≡ Faulty fault
+      → (aged (day .run) (u .made) (day .«margin_limit») ≡ false) × (marginFault (day .run) (u .made) ≡ fault)
   unfolding unitFaults also check
   by-margins fault late = go (valueFaults u floor) values-early
     where
-      tested : (t : Bool) → check t (marginFault run (u .made)) Fine ≡ Faulty fault → (t ≡ false) × (marginFault run (u .made) ≡ fault)
+      tested : (t : Bool) → check t (marginFault (day .run) (u .made)) Fine ≡ Faulty fault → (t ≡ false) × (marginFault (day .run) (u .made) ≡ fault)
       tested true e = absurd (false≢true (sym (early-fine fault e) ∙ late))
       tested false e = (refl, cc)
 
-      go : (c : Checked) → Early c → also c (check (aged run (u .made) limit) (marginFault run (u .made)) Fine) ≡ Faulty fault
-          → (aged run (u .made) limit ≡ false) × (marginFault run (u .made) ≡ fault)
+      go : (c : Checked) → Early c → also c (check (aged (day .run) (u .made) (day .«margin_limit»)) (marginFault (day .run) (u .made)) Fine) ≡ Faulty fault
+          → (aged (day .run) (u .made) (day .«margin_limit») ≡ false) × (marginFault (day .run) (u .made) ≡ fault)
       go Fine h e = tested _ e
       go (Faulty other) h e = absurd (false≢true (sym (h fault e) ∙ late))
 
-  pub margins-stale : unitFaults u floor run limit ≡ Faulty F.Age → (u .made ≤ run) × (limit < run - u .made)
+  pub margins-stale : unitFaults u floor day ≡ Faulty F.Age → (u .made ≤ day .run) × (day .«margin_limit» < day .run - u .made)
   margins-stale e =
       let h = by-margins F.Age refl e in
-      stale run (u .made) limit (go (madeAfter run (u .made)) (h .1)) (h .0)
+      stale (day .run) (u .made) (day .«margin_limit») (go (madeAfter (day .run) (u .made)) (h .1)) (h .0)
     where
       go : (t : Bool) → pick t F.Ahead F.Age ≡ F.Age → t ≡ false
       go true e = cc
       go false e = refl
 
-  pub margins-ahead : unitFaults u floor run limit ≡ Faulty F.Ahead → run < u .made
-  margins-ahead e = ltb-true run (u .made) (go (madeAfter run (u .made)) (by-margins F.Ahead refl e .1))
+  pub margins-ahead : unitFaults u floor day ≡ Faulty F.Ahead → day .run < u .made
+  margins-ahead e = ltb-true (day .run) (u .made) (go (madeAfter (day .run) (u .made)) (by-margins F.Ahead refl e .1))
     where
       go : (t : Bool) → pick t F.Ahead F.Age ≡ F.Ahead → t ≡ true
       go true e = refl

@@ -110,18 +110,18 @@ module _ (s t : List ℕ) (n : ℕ) (a : Agree s t n) where
   unfolding placeFrom
   units-same at i h = ap (unitAt t) (place-same at i (omega (arith, unit-past s (placeFrom s at i)))) ∙ unit-same (placeFrom s at i) h
 
-  unit-kept : (at floor run limit : ℕ) {u : UnitRecord} → unitEnd s at ≤ n → unitOf s at floor run limit ≡ is u → unitOf t at floor run limit ≡ is u
+  unit-kept : (at floor : ℕ) (day : DayRecord) {u : UnitRecord} → unitEnd s at ≤ n → unitOf s at floor day ≡ is u → unitOf t at floor day ≡ is u
   unfolding unitOf unitFieldsOf next
-  unit-kept at floor run limit h e =
+  unit-kept at floor day h e =
       let x = next-is _ _ e in
       rw (unit-head-kept at (omega (arith, read-end s at (x .1 .0))) (x .1 .0), unit-same at h) (x .1 .1)
 
-  pub units-kept : (at floor run limit count : ℕ) {end : ℕ} → end ≤ n → unitsOf s at floor run limit count ≡ is end → unitsOf t at floor run limit count ≡ is end
+  pub units-kept : (at floor : ℕ) (day : DayRecord) (count : ℕ) {end : ℕ} → end ≤ n → unitsOf s at floor day count ≡ is end → unitsOf t at floor day count ≡ is end
   unfolding unitsOf next
-  units-kept at floor run limit zero h e = e
-  units-kept at floor run limit (suc left) h e =
+  units-kept at floor day zero h e = e
+  units-kept at floor day (suc left) h e =
       let x = next-is _ _ e in
-      let rest = units-accepted s (unitEnd s at) (x .0 .number + 1) run limit left (unit-long s at floor run limit (x .1 .0)) (x .1 .1) in
+      let rest = units-accepted s (unitEnd s at) (x .0 .number + 1) day left (unit-long s at floor day (x .1 .0)) (x .1 .1) in
       let within : unitEnd s at ≤ n = omega (arith, rest .ends, place-from s (unitEnd s at) left) in
-      rw (unit-kept at floor run limit within (x .1 .0))
-      (ap (λ (to : ℕ). unitsOf t to (x .0 .number + 1) run limit left) (ends-same at within) ∙ units-kept (unitEnd s at) (x .0 .number + 1) run limit left h (x .1 .1))
+      rw (unit-kept at floor day within (x .1 .0))
+      (ap (λ (to : ℕ). unitsOf t to (x .0 .number + 1) day left) (ends-same at within) ∙ units-kept (unitEnd s at) (x .0 .number + 1) day left h (x .1 .1))

@@ -20,6 +20,7 @@ use Rattle.terms.specs.declared.refusal.Checked.{Checked}
 use Rattle.terms.specs.declared.refusal.Checked.the-variants.{Fine, Faulty}
 use Rattle.terms.proofs.Replies.{next-is}
 use Rattle.terms.proofs.Passing.{passes}
+use Rattle.records.specs.declared.day.DayRecord.{DayRecord}
 use Rattle.records.specs.declared.unit.UnitRecord.{UnitRecord}
 use Rattle.records.specs.Layouts.{unitAt, marginsOf}
 use Rattle.records.specs.Reading.{aged, also, markFaults, valueFaults, unitFaults, unitFieldsOf, unitOf}
@@ -43,14 +44,14 @@ pub record Marked (u : UnitRecord) : Type 0 where
   pub pc : Within 1000000 (u .pc .0)
   pub flags : (knownClass (u .class) ≡ true) × ((u .nominated ≤ 1) × (u .coincide ≤ 1))
 
-module _ (u : UnitRecord) (floor run limit : ℕ) where
-  parts : marksPass u floor run limit ≡ true → (markFaults u floor ≡ Fine) × ((inRange (u .pc .0) ≡ true) × (aged run (u .made) limit ≡ true))
+module _ (u : UnitRecord) (floor : ℕ) (day : DayRecord) where
+  parts : marksPass u floor day ≡ true → (markFaults u floor ≡ Fine) × ((inRange (u .pc .0) ≡ true) × (aged (day .run) (u .made) (day .«margin_limit») ≡ true))
   unfolding marksPass
   parts e =
-      let a = and-both (isFine (markFaults u floor)) (inRange (u .pc .0) && aged run (u .made) limit) e in
-      (fine-is _ (a .0), and-both (inRange (u .pc .0)) (aged run (u .made) limit) (a .1))
+      let a = and-both (isFine (markFaults u floor)) (inRange (u .pc .0) && aged (day .run) (u .made) (day .«margin_limit»)) e in
+      (fine-is _ (a .0), and-both (inRange (u .pc .0)) (aged (day .run) (u .made) (day .«margin_limit»)) (a .1))
 
-  pub marked : marksPass u floor run limit ≡ true → Marked u
+  pub marked : marksPass u floor day ≡ true → Marked u
   unfolding markFaults
   marked e =
       let p = parts e in
@@ -62,7 +63,7 @@ module _ (u : UnitRecord) (floor run limit : ℕ) where
       record { stated = stated .0; pc = range-within _ (p .1 .0); flags = (class .0, (leb-true _ _ (nominated .0), leb-true _ _ (coincide .0))) }
 
   -- a unit without a fault has these marks
-  pub marks-needed : unitFaults u floor run limit ≡ Fine → marksPass u floor run limit ≡ true
+  pub marks-needed : unitFaults u floor day ≡ Fine → marksPass u floor day ≡ true
   unfolding unitFaults valueFaults amountChecks marksPass isFine
   marks-needed e =
       let a = also-fine _ _ e in
@@ -86,22 +87,22 @@ module _ (u : UnitRecord) (floor run limit : ℕ) where
           rw z
 
   -- and with its quantities in their ranges it has none
-  pub marks-enough : marksPass u floor run limit ≡ true → inRange (unitN0 u) ≡ true → inRange (marginsOf u .«step_down») ≡ true → inRange (marginsOf u .«step_up») ≡ true
-      → leZ (marginsOf u .«step_down») (marginsOf u .«step_up») ≡ true → unitFaults u floor run limit ≡ Fine
+  pub marks-enough : marksPass u floor day ≡ true → inRange (unitN0 u) ≡ true → inRange (marginsOf u .«step_down») ≡ true → inRange (marginsOf u .«step_up») ≡ true
+      → leZ (marginsOf u .«step_down») (marginsOf u .«step_up») ≡ true → unitFaults u floor day ≡ Fine
   unfolding unitFaults valueFaults amountChecks marginChecks also check
   marks-enough e n0 down up ordered =
       let p = parts e in
       rw (p .0, n-in-range (marked e .stated) n0, p .1 .0, down, up, ordered, p .1 .1)
 
 -- a unit that lies whole at a place and has no fault is read; what was read lies whole
-module _ (s : List ℕ) (at floor run limit : ℕ) where
-  pub unit-read : isWhole s at ≡ true → unitFaults (unitAt s at) floor run limit ≡ Fine → unitOf s at floor run limit ≡ is (unitAt s at)
+module _ (s : List ℕ) (at floor : ℕ) (day : DayRecord) where
+  pub unit-read : isWhole s at ≡ true → unitFaults (unitAt s at) floor day ≡ Fine → unitOf s at floor day ≡ is (unitAt s at)
   unfolding unitOf unitFieldsOf next passed
   unit-read w e = rw (whole-read s at w, e)
 
-  pub read-whole : {u : UnitRecord} → unitOf s at floor run limit ≡ is u → isWhole s at ≡ true
+  pub read-whole : {u : UnitRecord} → unitOf s at floor day ≡ is u → isWhole s at ≡ true
   unfolding unitOf
   read-whole e = head.read-whole s at (next-is _ _ e .1 .0)
 
-  pub read-marked : {u : UnitRecord} → unitOf s at floor run limit ≡ is u → marksPass (unitAt s at) floor run limit ≡ true
-  read-marked e = marks-needed _ floor run limit (unit-is s at floor run limit e .0)
+  pub read-marked : {u : UnitRecord} → unitOf s at floor day ≡ is u → marksPass (unitAt s at) floor day ≡ true
+  read-marked e = marks-needed _ floor day (unit-is s at floor day e .0)

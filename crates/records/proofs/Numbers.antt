@@ -53,12 +53,12 @@ module _ (s : List ℕ) where
   by-first d = by-need _ 4 _ refl (by-need _ 5 _ refl (by-sure _ 13 _ refl (by-need _ _ _ (of-position (λ n. isOf firstNumbers n ≡ true) refl refl (d .run) (groupAt s 0 .made)) (value _))))
 
   -- a unit, by the numbers of its head
-  pub by-unit : (l : List ℕ) (at floor run limit : ℕ) → allOf (isOf l) faultNumbers ≡ true → By l (unitHeadOf s at) → By l (unitOf s at floor run limit)
+  pub by-unit : (l : List ℕ) (at floor : ℕ) (day : DayRecord) → allOf (isOf l) faultNumbers ≡ true → By l (unitHeadOf s at) → By l (unitOf s at floor day)
   unfolding unitOf unitFieldsOf
-  by-unit l at floor run limit e h = by-next h (λ _ _. by-passed _ _ e (value _))
+  by-unit l at floor day e h = by-next h (λ _ _. by-passed _ _ e (value _))
 
-  pub by-units : (at floor run limit left : ℕ) → By unitNumbers (unitsOf s at floor run limit left)
+  pub by-units : (at floor : ℕ) (day : DayRecord) (left : ℕ) → By unitNumbers (unitsOf s at floor day left)
   unfolding unitsOf
-  by-units at floor run limit zero = value at
-  by-units at floor run limit (suc left) =
-      by-next (by-unit unitNumbers at floor run limit refl (by-more headNumbers unitNumbers refl (by-head at _ _))) (λ u _. by-units (unitEnd s at) (u .number + 1) run limit left)
+  by-units at floor day zero = value at
+  by-units at floor day (suc left) =
+      by-next (by-unit unitNumbers at floor day refl (by-more headNumbers unitNumbers refl (by-head at _ _))) (λ u _. by-units (unitEnd s at) (u .number + 1) day left)

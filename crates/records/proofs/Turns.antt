@@ -8,6 +8,7 @@ use Rattle.terms.specs.declared.refusal.Fault.{Fault}
 use Rattle.terms.specs.declared.refusal.Fault.the-variants as F
 use Rattle.terms.specs.declared.refusal.Checked.the-variants.{Faulty}
 use Rattle.terms.proofs.FirstRefused.{Steps}
+use Rattle.records.specs.declared.day.DayRecord.{DayRecord}
 use Rattle.records.specs.declared.unit.UnitRecord.{UnitRecord}
 use Rattle.records.specs.Layouts.{lengthOf, longestUnit}
 use Rattle.records.specs.Reading.{faultPlace, unitEnd, unitFaults, unitOf, unitsOf}
@@ -28,15 +29,15 @@ place-within F.Ahead = omega arith
 place-within F.Age = omega arith
 
 -- what a unit has wrong stands within its own record, however long the longest is
-pub place-inside : (u : UnitRecord) (floor run limit : ℕ) (fault : Fault) → unitFaults u floor run limit ≡ Faulty fault → faultPlace fault < lengthOf u
-place-inside u floor run limit fault e = place-within fault
+pub place-inside : (u : UnitRecord) (floor : ℕ) (day : DayRecord) (fault : Fault) → unitFaults u floor day ≡ Faulty fault → faultPlace fault < lengthOf u
+place-inside u floor day fault e = place-within fault
 
 -- so many units from a place and a least number on
-abbrev pub unitsAfter : List ℕ → ℕ → ℕ → ℕ × ℕ → ℕ → Reply ℕ
-unitsAfter s run limit p = unitsOf s (p .0) (p .1) run limit
+abbrev pub unitsAfter : List ℕ → DayRecord → ℕ × ℕ → ℕ → Reply ℕ
+unitsAfter s day p = unitsOf s (p .0) (p .1) day
 
 -- each unit is a step, and the next is read where it ends, with a number above its own
-pub units-steps : (s : List ℕ) (run limit : ℕ)
-    → Steps (λ (p : ℕ × ℕ). unitOf s (p .0) (p .1) run limit) (λ p u. (unitEnd s (p .0), u .number + 1)) (λ p. p .0) (unitsAfter s run limit)
+pub units-steps : (s : List ℕ) (day : DayRecord)
+    → Steps (λ (p : ℕ × ℕ). unitOf s (p .0) (p .1) day) (λ p u. (unitEnd s (p .0), u .number + 1)) (λ p. p .0) (unitsAfter s day)
 unfolding unitsOf
-units-steps s run limit = record { none = λ p. refl; more = λ p left. refl }
+units-steps s day = record { none = λ p. refl; more = λ p left. refl }

@@ -55,8 +55,8 @@ module _ (s : List ℕ) where
   pub read-end-unique : (accepted : ℕ) (a b : EndAnswer) → endReply a ≡ endOf s accepted → endReply b ≡ endOf s accepted → a ≡ b
   read-end-unique accepted a b p q = end-answer-same a b (p ∙ sym q)
 
-  pub unit-at-unique : (at floor run limit : ℕ) (a b : UnitAnswer) → unitReply a ≡ unitOf s at floor run limit → unitReply b ≡ unitOf s at floor run limit → a ≡ b
-  unit-at-unique at floor run limit a b p q = unit-answer-same a b (p ∙ sym q)
+  pub unit-at-unique : (at floor : ℕ) (day : DayRecord) (a b : UnitAnswer) → unitReply a ≡ unitOf s at floor day → unitReply b ≡ unitOf s at floor day → a ≡ b
+  unit-at-unique at floor day a b p q = unit-answer-same a b (p ∙ sym q)
 
-  pub units-from-unique : (at run limit count : ℕ) (a b : Answer) → answer a ≡ unitsOf s at 0 run limit count → answer b ≡ unitsOf s at 0 run limit count → a ≡ b
-  units-from-unique at run limit count a b p q = answer-same a b (p ∙ sym q)
+  pub units-from-unique : (at : ℕ) (day : DayRecord) (count : ℕ) (a b : Answer) → answer a ≡ unitsOf s at 0 day count → answer b ≡ unitsOf s at 0 day count → a ≡ b
+  units-from-unique at day count a b p q = answer-same a b (p ∙ sym q)

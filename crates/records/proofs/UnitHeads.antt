@@ -9,6 +9,7 @@ use borrow.Author.Tests.{lt-ltb, le-leb, eq-eqb}
 use Rattle.numbers.specs.Bytes.{byteAt}
 use Rattle.terms.specs.Reply.{is, refused, need}
 use Rattle.terms.proofs.Replies.{next-is}
+use Rattle.records.specs.declared.day.DayRecord.{DayRecord}
 use Rattle.records.specs.declared.unit.UnitRecord.{UnitRecord}
 use Rattle.records.specs.Layouts.{unitKind, isUnit, unitLength, unitAt, lengthOf, longestUnit}
 use Rattle.records.specs.Reading.{headOf, unitHeadOf, unitEnd, unitOf}
@@ -59,9 +60,9 @@ module _ (s : List ℕ) (at : ℕ) where
     read-long = whole-long read-whole
 
   -- a unit that was read lies whole in the bytes
-  pub unit-long : (floor run limit : ℕ) {u : UnitRecord} → unitOf s at floor run limit ≡ is u → unitEnd s at ≤ length s
+  pub unit-long : (floor : ℕ) (day : DayRecord) {u : UnitRecord} → unitOf s at floor day ≡ is u → unitEnd s at ≤ length s
   unfolding unitOf
-  unit-long floor run limit e = read-long (next-is _ _ e .1 .0)
+  unit-long floor day e = read-long (next-is _ _ e .1 .0)
 
 -- the head of a unit in other bytes, where these have its first byte: the same tests, as far as both are long enough
 module _ (s t : List ℕ) (at to : ℕ) (b : byteAt t to ≡ byteAt s at) where

@@ -8,6 +8,7 @@ use Rattle.numbers.specs.Bytes.{byteAt}
 use Rattle.terms.specs.Checks.{inRange}
 use Rattle.terms.specs.declared.refusal.Checked.{Checked}
 use Rattle.terms.specs.declared.refusal.Checked.the-variants.{Fine, Faulty}
+use Rattle.records.specs.declared.day.DayRecord.{DayRecord}
 use Rattle.records.specs.declared.unit.UnitRecord.{UnitRecord}
 use Rattle.records.specs.Layouts.{unitKind, unitLength}
 use Rattle.records.specs.Reading.{aged, markFaults}
@@ -21,5 +22,5 @@ isFine Fine = true
 isFine (Faulty fault) = false
 
 -- a unit passes in all but the range of N and its margins
-unfoldable pub marksPass : UnitRecord → ℕ → ℕ → ℕ → Bool
-marksPass u floor run limit = isFine (markFaults u floor) && (inRange (u .pc .0) && aged run (u .made) limit)
+unfoldable pub marksPass : UnitRecord → ℕ → DayRecord → Bool
+marksPass u floor day = isFine (markFaults u floor) && (inRange (u .pc .0) && aged (day .run) (u .made) (day .«margin_limit»))

@@ -153,9 +153,10 @@ markFaults u floor =
 unfoldable pub valueFaults : UnitRecord → ℕ → Checked
 valueFaults u floor = also (markFaults u floor) (amountChecks (u .n .0) (u .pc .0) (marginsOf u))
 
--- the same, and then the age of its margins
-unfoldable pub unitFaults : UnitRecord → ℕ → ℕ → ℕ → Checked
-unitFaults u floor run limit = also (valueFaults u floor) (check (aged run (u .made) limit) (marginFault run (u .made)) Fine)
+-- the same, and then the age of its margins, by the day
+unfoldable pub unitFaults : UnitRecord → ℕ → DayRecord → Checked
+unitFaults u floor day =
+    also (valueFaults u floor) (check (aged (day .run) (u .made) (day .«margin_limit»)) (marginFault (day .run) (u .made)) Fine)
 
 -- the place in the record of what is at fault
 abbrev pub faultPlace : Fault → ℕ
@@ -172,15 +173,15 @@ faultPlace F.Crossed = unitStepUp .place
 faultPlace F.Ahead = unitMade .place
 faultPlace F.Age = unitMade .place
 
-unfoldable pub unitFieldsOf : List ℕ → ℕ → ℕ → ℕ → ℕ → Reply UnitRecord
-unitFieldsOf s at floor run limit =
-    passed (λ fault. at + faultPlace fault) (unitFaults (unitAt s at) floor run limit) (is (unitAt s at))
+unfoldable pub unitFieldsOf : List ℕ → ℕ → ℕ → DayRecord → Reply UnitRecord
+unitFieldsOf s at floor day =
+    passed (λ fault. at + faultPlace fault) (unitFaults (unitAt s at) floor day) (is (unitAt s at))
 
-unfoldable pub unitOf : List ℕ → ℕ → ℕ → ℕ → ℕ → Reply UnitRecord
-unitOf s at floor run limit = next (unitHeadOf s at) λ _. unitFieldsOf s at floor run limit
+unfoldable pub unitOf : List ℕ → ℕ → ℕ → DayRecord → Reply UnitRecord
+unitOf s at floor day = next (unitHeadOf s at) λ _. unitFieldsOf s at floor day
 
 -- so many units from a place on; where they end
-unfoldable pub unitsOf : List ℕ → ℕ → ℕ → ℕ → ℕ → ℕ → Reply ℕ
-unitsOf s at floor run limit zero = is at
-unitsOf s at floor run limit (suc left) =
-    next (unitOf s at floor run limit) λ u. unitsOf s (unitEnd s at) (u .number + 1) run limit left
+unfoldable pub unitsOf : List ℕ → ℕ → ℕ → DayRecord → ℕ → Reply ℕ
+unitsOf s at floor day zero = is at
+unitsOf s at floor day (suc left) =
+    next (unitOf s at floor day) λ u. unitsOf s (unitEnd s at) (u .number + 1) day left

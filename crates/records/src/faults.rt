@@ -12,6 +12,7 @@ ghost use Rattle.records.specs.Reading.{markFaults, valueFaults, unitFau
 ghost use Rattle.records.specs.Inner.{marksPass};
 use crate::age::is_aged;
 use crate::age::margin_fault;
+use crate::day::DayRecord;
 use crate::unit::UnitRecord;
 use terms::check::amounts;
 use terms::check::class;
@@ -65,23 +66,23 @@ pub fn faults(u: UnitRecord, floor: u32) -> Checked
     amounts(u.n, u.pc, u.margins())
 }
 
-// The same, and then the margins' age.
-pub fn unit_faults(u: UnitRecord, floor: u32, run: u32, limit: u16) -> Checked
-    ensures { λ r. ⌜ r ≡ unitFaults u floor run limit ⌝ }
+// The same, and then the margins' age, by the day.
+pub fn unit_faults(u: UnitRecord, floor: u32, day: DayRecord) -> Checked
+    ensures { λ r. ⌜ r ≡ unitFaults u floor day ⌝ }
 {
     let f = faults(u, floor);
     let Checked::Fine = f else {
         return f;
     };
-    if is_aged(run, u.made, limit) {
+    if is_aged(day.run, u.made, day.margin_limit) {
         return Checked::Fine;
     }
-    Checked::Faulty(margin_fault(run, u.made))
+    Checked::Faulty(margin_fault(day.run, u.made))
 }
 
 // Whether a unit passes in all but the range of N and its margins, which are asked of all units at once.
-pub fn marks_pass(u: UnitRecord, floor: u32, run: u32, limit: u16) -> bool
-    ensures { λ r. ⌜ r ≡ marksPass u floor run limit ⌝ }
+pub fn marks_pass(u: UnitRecord, floor: u32, day: DayRecord) -> bool
+    ensures { λ r. ⌜ r ≡ marksPass u floor day ⌝ }
 {
     let Checked::Fine = marks(u, floor) else {
         return false;
@@ -89,5 +90,5 @@ pub fn marks_pass(u: UnitRecord, floor: u32, run: u32, limit: u16) -> bool
     let Checked::Fine = position(u.pc.0) else {
         return false;
     };
-    is_aged(run, u.made, limit)
+    is_aged(day.run, u.made, day.margin_limit)
 }

@@ -6,6 +6,7 @@ ghost use Rattle.terms.specs.Refusals.{answer};
 ghost use Rattle.records.specs.Answers.{unitReply, unitRefusal};
 ghost use Rattle.records.specs.Inner.{isWhole};
 ghost use Rattle.records.specs.Reading.{unitHeadOf, unitEnd, unitFieldsOf, unitOf, unitsOf};
+use crate::day::DayRecord;
 use crate::faults::unit_faults;
 use crate::head::head;
 use crate::unit::UnitRecord;
@@ -56,13 +57,13 @@ pub fn unit_head(s: &[u8], at: usize) -> Answer
     head(s, at, UnitRecord::KIND, UnitRecord::LEN)
 }
 
-// A unit record that is there whole, judged.
-fn unit_judged(s: &[u8], at: usize, floor: u32, run: u32, limit: u16) -> UnitAnswer
+// A unit record that is there whole, judged by the day.
+fn unit_judged(s: &[u8], at: usize, floor: u32, day: DayRecord) -> UnitAnswer
     requires { ⌜ unitEnd (now s) at ≤ length (now s) ⌝ }
-    ensures { λ r. ⌜ unitReply r ≡ unitFieldsOf (now (s .entry)) at floor run limit ⌝ }
+    ensures { λ r. ⌜ unitReply r ≡ unitFieldsOf (now (s .entry)) at floor day ⌝ }
 {
     let u = unit_fields(s, at);
-    let c = unit_faults(u, floor, run, limit);
+    let c = unit_faults(u, floor, day);
     let Checked::Faulty(fault) = c else {
         return UnitAnswer::Is(u);
     };
@@ -72,26 +73,26 @@ fn unit_judged(s: &[u8], at: usize, floor: u32, run: u32, limit: u16) -> UnitAns
     })
 }
 
-// The unit record at a place: its number is at least the floor, its margins are no older than the limit.
-pub fn unit_at(s: &[u8], at: usize, floor: u32, run: u32, limit: u16) -> UnitAnswer
-    ensures { λ r. ⌜ unitReply r ≡ unitOf (now (s .entry)) at floor run limit ⌝ }
+// The unit record at a place: its number is at least the floor, its margins are no older than the day allows.
+pub fn unit_at(s: &[u8], at: usize, floor: u32, day: DayRecord) -> UnitAnswer
+    ensures { λ r. ⌜ unitReply r ≡ unitOf (now (s .entry)) at floor day ⌝ }
 {
     let h = unit_head(s, at);
     let Answer::Is(_) = h else {
         return UnitAnswer::Refused(h.refusal());
     };
-    unit_judged(s, at, floor, run, limit)
+    unit_judged(s, at, floor, day)
 }
 
 // So many units from a place on: the first refusal, or where they end.
-pub fn units_from(s: &[u8], at: usize, count: usize, run: u32, limit: u16) -> Answer
-    ensures { λ r. ⌜ answer r ≡ unitsOf (now (s .entry)) at 0 run limit count ⌝ }
+pub fn units_from(s: &[u8], at: usize, count: usize, day: DayRecord) -> Answer
+    ensures { λ r. ⌜ answer r ≡ unitsOf (now (s .entry)) at 0 day count ⌝ }
 {
     let mut floor: u32 = 0;
     let mut here = at;
     let mut i = 0;
     while i < count {
-        let r = unit_at(s, here, floor, run, limit);
+        let r = unit_at(s, here, floor, day);
         let UnitAnswer::Is(u) = r else {
             return Answer::Refused(r.refusal());
         };

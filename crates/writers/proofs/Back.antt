@@ -77,9 +77,9 @@ module _ (g : GroupRecord) (c : Columns) (rest s : List ℕ) (so : s ≡ blockBy
     unit-in : (i : ℕ) → i < count c → unitIn s i ≡ rowOf c i
     unit-in i h = rw (place-is i (omega arith)) (unit-is i h)
 
-    module _ (run limit : ℕ) (fine : (i : ℕ) → i < count c → unitFaults (rowOf c i) (floorAt c i) run limit ≡ Fine) where
+    module _ (day : DayRecord) (fine : (i : ℕ) → i < count c → unitFaults (rowOf c i) (floorAt c i) day ≡ Fine) where
       -- from unit i on
-      units-in : (left i : ℕ) → i + left ≡ count c → unitsOf s (unitsEnd c i) (floorAt c i) run limit left ≡ is (blockLength c)
+      units-in : (left i : ℕ) → i + left ≡ count c → unitsOf s (unitsEnd c i) (floorAt c i) day left ≡ is (blockLength c)
       unfolding unitsOf next floorAt unitsEnd
       units-in zero i e =
           let l : i ≡ count c = omega arith in
@@ -87,12 +87,12 @@ module _ (g : GroupRecord) (c : Columns) (rest s : List ℕ) (so : s ≡ blockBy
       units-in (suc left) i e =
           let h : i < count c = omega arith in
           let p = unit-stands i h in
-          rw (unit-reads s (unitsEnd c i) (p .0) (rowOf c i) (p .1) (sounds i h) (floorAt c i) run limit (fine i h))
-          (ap (λ (u : UnitRecord). unitsOf s (unitsEnd c i + lengthOf u) (rowOf c i .number + 1) run limit left) (unit-is i h) ∙ units-in left (suc i) (omega arith))
+          rw (unit-reads s (unitsEnd c i) (p .0) (rowOf c i) (p .1) (sounds i h) (floorAt c i) day (fine i h))
+          (ap (λ (u : UnitRecord). unitsOf s (unitsEnd c i + lengthOf u) (rowOf c i .number + 1) day left) (unit-is i h) ∙ units-in left (suc i) (omega arith))
 
 -- past the other checks, the age decides
 aged-fine : (c : Columns) (day : DayRecord) (i : ℕ) → i < count c → rowChecks c i ≡ Fine → Fresh c day
-    → unitFaults (rowOf c i) (floorAt c i) (day .run) (day .«margin_limit») ≡ Fine
+    → unitFaults (rowOf c i) (floorAt c i) day ≡ Fine
 unfolding unitFaults also check
 aged-fine c day i h e f = simp (e, f .each i h)
 
@@ -122,13 +122,13 @@ module _ (brp zone quarter made : ℕ) (c : Columns) {entry exit : List ℕ} {r 
       }
 
   pub block-taken : (day : DayRecord) (last : Last) → Joins (groupOver brp zone quarter made c) day last → Fresh c day
-      → (groupOf exit day last ≡ is (groupOver brp zone quarter made c)) × (unitsOf exit groupLength 0 (day .run) (day .«margin_limit») (count c) ≡ is n)
+      → (groupOf exit day last ≡ is (groupOver brp zone quarter made c)) × (unitsOf exit groupLength 0 day (count c) ≡ is n)
   unfolding floorAt unitsEnd
   block-taken day last j k =
       let few = le-leb 1 (count c) (took .group .some) in
       let many = le-leb (count c) mostUnits (took .group .few) in
       let counted : unitCount (count c) ≡ true = rw (few, many) in
-      let all = units-in group c (drop n entry) exit (in-room .1) sounds (day .run) (day .«margin_limit») (λ i h. aged-fine c day i h (took .fine i h) k) (count c) 0 (omega arith) in
+      let all = units-in group c (drop n entry) exit (in-room .1) sounds day (λ i h. aged-fine c day i h (took .fine i h) k) (count c) 0 (omega arith) in
       (group-reads exit (unitsBytes c (count c) ++ drop n entry) group group-front day last counted j, all ∙ ap is (sym (took .bytes)))
 
 -- ---- the result of a block

@@ -48,19 +48,19 @@ record Read (s : List ℕ) (i : ℕ) : Type 0 where
   pub whole : isWhole s (unitPlace s i) ≡ true
   pub fine : valueFaults (unitIn s i) (floorIn s i) ≡ Fine
 
-module _ (s : List ℕ) (run limit : ℕ) where
-  read-one : (i : ℕ) {u : UnitRecord} → unitOf s (unitPlace s i) (floorIn s i) run limit ≡ is u → Read s i
+module _ (s : List ℕ) (day : DayRecord) where
+  read-one : (i : ℕ) {u : UnitRecord} → unitOf s (unitPlace s i) (floorIn s i) day ≡ is u → Read s i
   unfolding unitOf unitFaults
   read-one i e =
-      let p = unit-is s (unitPlace s i) (floorIn s i) run limit e in
+      let p = unit-is s (unitPlace s i) (floorIn s i) day e in
       record { whole = read-whole s (unitPlace s i) (next-is _ _ e .1 .0); fine = also-fine _ _ (p .0) .0 }
 
-  read-all : (i left : ℕ) {n : ℕ} → unitsOf s (unitPlace s i) (floorIn s i) run limit left ≡ is n → (j : ℕ) → i ≤ j → j < i + left → Read s j
+  read-all : (i left : ℕ) {n : ℕ} → unitsOf s (unitPlace s i) (floorIn s i) day left ≡ is n → (j : ℕ) → i ≤ j → j < i + left → Read s j
   unfolding unitsOf placeFrom floorIn
   read-all i zero e j l h = absurd (omega arith)
   read-all i (suc left) e j l h =
       let a = next-is _ _ e in
-      let u = unit-is s (unitPlace s i) (floorIn s i) run limit (a .1 .0) .1 in
+      let u = unit-is s (unitPlace s i) (floorIn s i) day (a .1 .0) .1 in
       go (read-one i (a .1 .0)) (read-all (suc i) left (rw u at (a .1 .1)) j) (decLt i j)
     where
       go : Read s i → (suc i ≤ j → j < suc i + left → Read s j) → Dec (i < j) → Read s j
@@ -102,7 +102,7 @@ most q e =
     (λ k. either (eqb q 96) (eqb q 100) k (λ h. omega (arith, eqb-true q 96 h)) (λ h. omega (arith, eqb-true q 100 h)))
 
 module _ (s : List ℕ) (small : Bytes s) (day : DayRecord) (last : Last) (g : GroupRecord) {n : ℕ} (right : permitted (day .quarters) ≡ true)
-    (group : groupOf s day last ≡ is g) (units : unitsOf s groupLength 0 (day .run) (day .«margin_limit») (g .count) ≡ is n) where
+    (group : groupOf s day last ≡ is g) (units : unitsOf s groupLength 0 day (g .count) ≡ is n) where
   abbrev values : Columns
   values = columnsIn s (g .count)
 
@@ -117,11 +117,11 @@ module _ (s : List ℕ) (small : Bytes s) (day : DayRecord) (last : Last) (g : G
 
   reads : (i : ℕ) → i < g .count → Read s i
   unfolding floorIn placeFrom
-  reads i h = read-all s (day .run) (day .«margin_limit») 0 (g .count) units i (omega arith) (omega arith)
+  reads i h = read-all s day 0 (g .count) units i (omega arith) (omega arith)
 
   -- where they end is the block's length
   ends : n ≡ blockLength values
-  ends = block-end s (day .run) (day .«margin_limit») (g .count) (headed s 0 groupKind groupLength (read .head) .long) units ∙ rw (counted, end-in s (g .count) (g .count) (omega arith))
+  ends = block-end s day (g .count) (headed s 0 groupKind groupLength (read .head) .long) units ∙ rw (counted, end-in s (g .count) (g .count) (omega arith))
 
   -- the writer takes the values
   takes : (room : ℕ) → n ≤ room → writeBlockOf (g .quarter) values room ≡ is n

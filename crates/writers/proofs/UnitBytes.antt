@@ -10,6 +10,7 @@ use Rattle.numbers.proofs.Integers.{zarith}
 use Rattle.terms.specs.Reply.{is, next}
 use Rattle.terms.specs.Refusals.{passed}
 use Rattle.terms.specs.declared.refusal.Checked.the-variants.{Fine}
+use Rattle.records.specs.declared.day.DayRecord.{DayRecord}
 use Rattle.records.specs.declared.unit.UnitRecord.{UnitRecord}
 use Rattle.records.specs.Layouts.{behind, unitKind, unitLength, unitTable, unitAt, unitBytes, lengthOf}
 use Rattle.records.specs.Reading.{unitHeadOf, unitFaults, unitFieldsOf, unitOf}
@@ -40,9 +41,9 @@ module _ (s : List ℕ) (at : ℕ) (rest : List ℕ) (u : UnitRecord) (e : drop 
         let m = r .1 .1 .1 .1 in
         rw (r .0, r .1 .0, r .1 .1 .0, r .1 .1 .1 .0, m .0, m .1 .0, m .1 .1 .0, m .1 .1 .1 .0, m .1 .1 .1 .1 .0)
 
-    pub unit-reads : (floor run limit : ℕ) → unitFaults u floor run limit ≡ Fine → unitOf s at floor run limit ≡ is u
+    pub unit-reads : (floor : ℕ) (day : DayRecord) → unitFaults u floor day ≡ Fine → unitOf s at floor day ≡ is u
     unfolding unitOf unitFieldsOf next passed
-    unit-reads floor run limit f = simp (head, unit-read, f)
+    unit-reads floor day f = simp (head, unit-read, f)
 
 module _ (s : List ℕ) (small : Bytes s) (at : ℕ) where
   pub unit-laid : isWhole s at ≡ true → unitBytes (unitAt s at) ≡ take (lengthOf (unitAt s at)) (drop at s)

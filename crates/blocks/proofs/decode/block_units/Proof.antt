@@ -27,19 +27,19 @@ refusal-requires : tie.Need-refusal-requires
 refusal-requires c κs = search needs
 
 same-length : tie.Need-same-length
-same-length c = units (c .before .before .before) .units-into .kept .1 .1 .1 .0
+same-length c = units (c .before .before .before) .units-into .kept .1 .1 .0
 
 same-length-2 : tie.Need-same-length-2
-same-length-2 c = units (c .before .before .before) .units-into .kept .1 .1 .1 .1 .0
+same-length-2 c = units (c .before .before .before) .units-into .kept .1 .1 .1 .0
 
 same-length-3 : tie.Need-same-length-3
-same-length-3 c = units (c .before .before .before) .units-into .kept .1 .1 .1 .1 .1 .0
+same-length-3 c = units (c .before .before .before) .units-into .kept .1 .1 .1 .1 .0
 
 same-length-4 : tie.Need-same-length-4
-same-length-4 c = units (c .before .before .before) .units-into .kept .1 .1 .1 .1 .1 .1 .0
+same-length-4 c = units (c .before .before .before) .units-into .kept .1 .1 .1 .1 .1 .0
 
 same-length-5 : tie.Need-same-length-5
-same-length-5 c = units (c .before .before .before) .units-into .kept .1 .1 .1 .1 .1 .1 .1 .0
+same-length-5 c = units (c .before .before .before) .units-into .kept .1 .1 .1 .1 .1 .1 .0
 
 returns : tie.Need-returns
 returns c =
@@ -47,32 +47,32 @@ returns c =
     let read = units (told .before .before) in
     let start = entry read in
     let e = ap answer (told .enum-told .given .1) in
-    block-refused _ _ _ _ (start .pre .0 .0) (start .pre .0 .1) (read .units-into .ensures) (e ∙ rw (c .refusal .ensures, told .enum-told .given .1)) refl
+    block-refused _ _ _ (start .pre .0 .0) (start .pre .0 .1) (read .units-into .ensures) (e ∙ rw (c .refusal .ensures, told .enum-told .given .1)) refl
 
 of-requires : tie.Need-of-requires
 of-requires c κs = search needs
 
 same-length-6 : tie.Need-same-length-6
-same-length-6 c = units (c .before .before .before .before) .units-into .kept .1 .1 .1 .0
+same-length-6 c = units (c .before .before .before .before) .units-into .kept .1 .1 .0
 
 same-length-7 : tie.Need-same-length-7
-same-length-7 c = units (c .before .before .before .before) .units-into .kept .1 .1 .1 .1 .0
+same-length-7 c = units (c .before .before .before .before) .units-into .kept .1 .1 .1 .0
 
 same-length-8 : tie.Need-same-length-8
-same-length-8 c = units (c .before .before .before .before) .units-into .kept .1 .1 .1 .1 .1 .0
+same-length-8 c = units (c .before .before .before .before) .units-into .kept .1 .1 .1 .1 .0
 
 same-length-9 : tie.Need-same-length-9
-same-length-9 c = units (c .before .before .before .before) .units-into .kept .1 .1 .1 .1 .1 .1 .0
+same-length-9 c = units (c .before .before .before .before) .units-into .kept .1 .1 .1 .1 .1 .0
 
 same-length-10 : tie.Need-same-length-10
-same-length-10 c = units (c .before .before .before .before) .units-into .kept .1 .1 .1 .1 .1 .1 .1 .0
+same-length-10 c = units (c .before .before .before .before) .units-into .kept .1 .1 .1 .1 .1 .1 .0
 
 returns-2 : tie.Need-returns-2
 returns-2 c =
     let known = c .before .before in
     let read = units (known .before .before) in
     let start = entry read in
-    block-passed _ _ _ _ (start .pre .0 .0) (start .pre .0 .1) (read .units-into .ensures) (ap answer (known .u .given .1)) (ap B.Is (c .of .ensures)) refl
+    block-passed _ _ _ (start .pre .0 .0) (start .pre .0 .1) (read .units-into .ensures) (ap answer (known .u .given .1)) (ap B.Is (c .of .ensures)) refl
 
 pub block-units-spec : {M : Type 1} → statement M
 block-units-spec =

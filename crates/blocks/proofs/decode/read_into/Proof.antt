@@ -27,16 +27,16 @@ use Rattle.blocks.proofs.decode.read_into.Statement.{statement}
 use Rattle.blocks.proofs.decode.read_into.Tie as tie
 
 abbrev Inv-loop : tie.InvT-loop
-Inv-loop s run limit class₀ taken₀ n0₀ step-down₀ step-up₀ floor₀ here₀ p₀ i₀ class taken n0 step-down step-up floor here p i =
-    Going s run limit class₀ taken₀ n0₀ step-down₀ step-up₀ class taken n0 step-down step-up here floor p i
+Inv-loop s day class₀ taken₀ n0₀ step-down₀ step-up₀ floor₀ here₀ p₀ i₀ class taken n0 step-down step-up floor here p i =
+    Going s day class₀ taken₀ n0₀ step-down₀ step-up₀ class taken n0 step-down step-up here floor p i
 
 abbrev μ-loop : tie.MeasureT-loop
-μ-loop s run limit class₀ taken₀ n0₀ step-down₀ step-up₀ floor₀ here₀ p₀ i₀ class taken n0 step-down step-up floor here p i = blockCount s - i
+μ-loop s day class₀ taken₀ n0₀ step-down₀ step-up₀ floor₀ here₀ p₀ i₀ class taken n0 step-down step-up floor here p i = blockCount s - i
 
 loop-holds : tie.Need-loop-holds Inv-loop μ-loop
 loop-holds c =
     let s = c .before .before .before in
-    start _ _ _ _ _ _ _ _ (s .pre .0) (s .pre .1)
+    start _ _ _ _ _ _ _ (s .pre .0) (s .pre .1)
 
 is-whole-requires : tie.Need-is-whole-requires Inv-loop μ-loop
 is-whole-requires c κs = search needs
@@ -64,10 +64,10 @@ returns c =
     let test1 = c .before in
     let test = test1 .before .before in
     let v = test .before .loop in
-    let l = below _ _ _ _ _ _ _ _ (v .inv) (test .loop-test .taken) in
+    let l = below _ _ _ _ _ _ _ (v .inv) (test .loop-test .taken) in
     let no = sym (test1 .before .is-whole .ensures) ∙ not-true _ (test1 .if1 .taken) in
     let told = c .broken-off .ensures in
-    broken _ _ _ (ap (λ (r : Reading). r .whole) told) (stopped _ _ _ _ _ _ _ _ (v .inv) l (λ u e. absurd (false≢true (sym no ∙ read-whole _ _ _ _ _ e))))
+    broken _ _ (ap (λ (r : Reading). r .whole) told) (stopped _ _ _ _ _ _ _ (v .inv) l (λ u e. absurd (false≢true (sym no ∙ read-whole _ _ _ _ e))))
 
 -- a unit that is whole lies in the bytes
 unit-fields-requires : tie.Need-unit-fields-requires Inv-loop μ-loop
@@ -113,21 +113,21 @@ returns-2 c =
     let unit = marks .before in
     let test = unit .before .before .before in
     let v = test .before .loop in
-    let l = below _ _ _ _ _ _ _ _ (v .inv) (test .loop-test .taken) in
+    let l = below _ _ _ _ _ _ _ (v .inv) (test .loop-test .taken) in
     let x = test .before .before .before .before .before .args in
-    let no = ap (λ u. marksPass u (v .floor) (x .run) (x .limit)) (sym (unit .unit-fields .ensures)) ∙ sym (marks .marks-pass .ensures) ∙ not-true _ (c .before .if2 .taken) in
+    let no = ap (λ u. marksPass u (v .floor) (x .day)) (sym (unit .unit-fields .ensures)) ∙ sym (marks .marks-pass .ensures) ∙ not-true _ (c .before .if2 .taken) in
     let told = c .broken-off2 .ensures in
-    broken _ _ _ (ap (λ (r : Reading). r .whole) told) (stopped _ _ _ _ _ _ _ _ (v .inv) l (λ u e. absurd (false≢true (sym no ∙ read-marked _ _ _ _ _ e))))
+    broken _ _ (ap (λ (r : Reading). r .whole) told) (stopped _ _ _ _ _ _ _ (v .inv) l (λ u e. absurd (false≢true (sym no ∙ read-marked _ _ _ _ e))))
 
 is-implicit-requires : tie.Need-is-implicit-requires Inv-loop μ-loop
 is-implicit-requires c κs =
     let marks = c .before in
-    marked _ _ _ _ (sym (marks .marks-pass .ensures) ∙ not-false _ (c .if2 .left)) .flags
+    marked _ _ _ (sym (marks .marks-pass .ensures) ∙ not-false _ (c .if2 .left)) .flags
 
 considered-requires : tie.Need-considered-requires Inv-loop μ-loop
 considered-requires c κs =
     let marks = c .before .before in
-    marked _ _ _ _ (sym (marks .marks-pass .ensures) ∙ not-false _ (c .before .if2 .left)) .pc
+    marked _ _ _ (sym (marks .marks-pass .ensures) ∙ not-false _ (c .before .if2 .left)) .pc
 
 margins-requires : tie.Need-margins-requires Inv-loop μ-loop
 margins-requires c κs = search needs
@@ -149,7 +149,7 @@ mul-taken c =
     let unit = margins .before .before .before .before .before in
     let test = unit .before .before .before in
     let v = test .before .loop in
-    omega (arith, below _ _ _ _ _ _ _ _ (v .inv) (test .loop-test .taken), v .inv .begun .few)
+    omega (arith, below _ _ _ _ _ _ _ (v .inv) (test .loop-test .taken), v .inv .begun .few)
 
 slice-write-taken : tie.Need-slice-write-taken Inv-loop μ-loop
 slice-write-taken c =
@@ -165,7 +165,7 @@ mul-n c =
     let unit = margins .before .before .before .before .before in
     let test = unit .before .before .before in
     let v = test .before .loop in
-    omega (arith, below _ _ _ _ _ _ _ _ (v .inv) (test .loop-test .taken), v .inv .begun .few)
+    omega (arith, below _ _ _ _ _ _ _ (v .inv) (test .loop-test .taken), v .inv .begun .few)
 
 slice-set-from-n : tie.Need-slice-set-from-n Inv-loop μ-loop
 slice-set-from-n c =
@@ -181,7 +181,7 @@ mul-down c =
     let unit = margins .before .before .before .before .before in
     let test = unit .before .before .before in
     let v = test .before .loop in
-    omega (arith, below _ _ _ _ _ _ _ _ (v .inv) (test .loop-test .taken), v .inv .begun .few)
+    omega (arith, below _ _ _ _ _ _ _ (v .inv) (test .loop-test .taken), v .inv .begun .few)
 
 slice-set-from-down : tie.Need-slice-set-from-down Inv-loop μ-loop
 slice-set-from-down c =
@@ -197,7 +197,7 @@ mul-up c =
     let unit = margins .before .before .before .before .before in
     let test = unit .before .before .before in
     let v = test .before .loop in
-    omega (arith, below _ _ _ _ _ _ _ _ (v .inv) (test .loop-test .taken), v .inv .begun .few)
+    omega (arith, below _ _ _ _ _ _ _ (v .inv) (test .loop-test .taken), v .inv .begun .few)
 
 slice-set-from-up : tie.Need-slice-set-from-up Inv-loop μ-loop
 slice-set-from-up c =
@@ -214,10 +214,10 @@ add-p c =
     let unit = marks .before in
     let test = unit .before .before .before in
     let v = test .before .loop in
-    let l = below _ _ _ _ _ _ _ _ (v .inv) (test .loop-test .taken) in
-    let w = marked _ _ _ _ (sym (marks .marks-pass .ensures) ∙ not-false _ (margins .before .before .before .if2 .left)) .pc in
-    rw (added-back (v .inv .sold) (upto _ _ _ _ _ _ _ _ (v .inv)), back _ w)
-    (added-fits (v .inv .sold) (upto _ _ _ _ _ _ _ _ (v .inv)) _ w (omega (arith, l, v .inv .begun .few)))
+    let l = below _ _ _ _ _ _ _ (v .inv) (test .loop-test .taken) in
+    let w = marked _ _ _ (sym (marks .marks-pass .ensures) ∙ not-false _ (margins .before .before .before .if2 .left)) .pc in
+    rw (added-back (v .inv .sold) (upto _ _ _ _ _ _ _ (v .inv)), back _ w)
+    (added-fits (v .inv .sold) (upto _ _ _ _ _ _ _ (v .inv)) _ w (omega (arith, l, v .inv .begun .few)))
 
 cast-floor : tie.Need-cast-floor Inv-loop μ-loop
 cast-floor c = search needs
@@ -236,7 +236,7 @@ add-here c =
     let unit = marks .before in
     let test = unit .before .before .before in
     let v = test .before .loop in
-    let l = below _ _ _ _ _ _ _ _ (v .inv) (test .loop-test .taken) in
+    let l = below _ _ _ _ _ _ _ (v .inv) (test .loop-test .taken) in
     let s = test .before .before .before .before .before in
     let yes = sym (unit .before .before .is-whole .ensures) ∙ not-false _ (unit .before .if1 .left) in
     omega (arith, c .length .ensures, ap lengthOf (unit .unit-fields .ensures), whole-long (now (s .args .s)) (v .here) yes, s .good .0)
@@ -249,7 +249,7 @@ add-i c =
     let unit = marks .before in
     let test = unit .before .before .before in
     let v = test .before .loop in
-    let l = below _ _ _ _ _ _ _ _ (v .inv) (test .loop-test .taken) in
+    let l = below _ _ _ _ _ _ _ (v .inv) (test .loop-test .taken) in
     omega (arith, l, v .inv .begun .few)
 
 loop-less : tie.Need-loop-less Inv-loop μ-loop
@@ -260,7 +260,7 @@ loop-less c =
     let unit = marks .before in
     let test = unit .before .before .before in
     let v = test .before .loop in
-    let l = below _ _ _ _ _ _ _ _ (v .inv) (test .loop-test .taken) in
+    let l = below _ _ _ _ _ _ _ (v .inv) (test .loop-test .taken) in
     omega (arith, l)
 
 loop-again : tie.Need-loop-again Inv-loop μ-loop
@@ -271,20 +271,20 @@ loop-again c =
     let unit = marks .before in
     let test = unit .before .before .before in
     let v = test .before .loop in
-    let l = below _ _ _ _ _ _ _ _ (v .inv) (test .loop-test .taken) in
+    let l = below _ _ _ _ _ _ _ (v .inv) (test .loop-test .taken) in
     let x = test .before .before .before .before .before .args in
     let u = unit .unit-fields .result in
     let is : u ≡ unitIn (now (x .s)) (v .i) = unit .unit-fields .ensures ∙ ap (unitAt (now (x .s))) (v .inv .place) in
     let there = sym (unit .before .before .is-whole .ensures) ∙ not-false _ (unit .before .if1 .left) in
     let passes = sym (marks .marks-pass .ensures) ∙ not-false _ (margins .before .before .before .if2 .left) in
-    let w = marked _ _ _ _ passes in
+    let w = marked _ _ _ passes in
     let implied = margins .before .before .is-implicit .ensures in
     let begun : margins .before .considered .result .0 ≡ unitN0 u =
     margins .before .considered .ensures ∙ ap (λ (b : Bool). pick b (negℤ (u .pc .0)) (u .n .0)) implied ∙ considered-by (u .class) (u .nominated) (u .coincide) (u .n .0) (u .pc .0) (w .stated) in
     let zn : toZ w32 (ofZ w32 (margins .before .considered .result .0)) ≡ margins .before .considered .result .0 = toZ-ofZ (record { sfits = margins .before .considered .ok .1 .1 .0 .1 }) in
     let zd : toZ w32 (ofZ w32 (margins .margins .result .«step_down»)) ≡ margins .margins .result .«step_down» = toZ-ofZ (record { sfits = margins .margins .ok .1 .1 .0 .1 }) in
     let zu : toZ w32 (ofZ w32 (margins .margins .result .«step_up»)) ≡ margins .margins .result .«step_up» = toZ-ofZ (record { sfits = margins .margins .ok .1 .1 .1 .0 .1 }) in
-    turn _ _ _ _ _ _ _ _ (v .inv) l is w there passes
+    turn _ _ _ _ _ _ _ (v .inv) l is w there passes
     refl
     (mark (margins .before .before .is-implicit .result) ∙ ap bit implied)
     (zn ∙ begun)
@@ -292,7 +292,7 @@ loop-again c =
     (zu ∙ ap (λ m. m .«step_up») (margins .margins .ensures))
     (ap (λ (n : ℕ). v .here + n) (c .length .ensures))
     refl
-    (rw (added-back (v .inv .sold) (upto _ _ _ _ _ _ _ _ (v .inv)), back _ (w .pc)))
+    (rw (added-back (v .inv .sold) (upto _ _ _ _ _ _ _ (v .inv)), back _ (w .pc)))
 
 same-length-11 : tie.Need-same-length-11 Inv-loop μ-loop
 same-length-11 c = kept (c .before .loop .inv .classes)
@@ -314,7 +314,7 @@ returns-3 c =
     let v = c .before .loop in
     let x = c .before .before .before .before .before .args in
     let l : blockCount (now (x .s)) ≤ v .i = omega (arith, v .inv .starts .long, c .loop-test .left) in
-    came _ _ _ refl (end _ _ _ _ _ _ _ _ (v .inv) l) (ended _ _ _ _ _ _ _ _ (v .inv) l)
+    came _ _ refl (end _ _ _ _ _ _ _ (v .inv) l) (ended _ _ _ _ _ _ _ (v .inv) l)
 
 pub read-into-spec : {M : Type 1} → statement M
 read-into-spec =

@@ -33,19 +33,19 @@ amounts-pass-requires : tie.Need-amounts-pass-requires
 amounts-pass-requires c κs = search needs
 
 same-length : tie.Need-same-length
-same-length c = read (passing c .before .before) .read-into .kept .1 .1 .1 .0
+same-length c = read (passing c .before .before) .read-into .kept .1 .1 .0
 
 same-length-2 : tie.Need-same-length-2
-same-length-2 c = read (passing c .before .before) .read-into .kept .1 .1 .1 .1 .0
+same-length-2 c = read (passing c .before .before) .read-into .kept .1 .1 .1 .0
 
 same-length-3 : tie.Need-same-length-3
-same-length-3 c = read (passing c .before .before) .read-into .kept .1 .1 .1 .1 .1 .0
+same-length-3 c = read (passing c .before .before) .read-into .kept .1 .1 .1 .1 .0
 
 same-length-4 : tie.Need-same-length-4
-same-length-4 c = read (passing c .before .before) .read-into .kept .1 .1 .1 .1 .1 .1 .0
+same-length-4 c = read (passing c .before .before) .read-into .kept .1 .1 .1 .1 .1 .0
 
 same-length-5 : tie.Need-same-length-5
-same-length-5 c = read (passing c .before .before) .read-into .kept .1 .1 .1 .1 .1 .1 .1 .0
+same-length-5 c = read (passing c .before .before) .read-into .kept .1 .1 .1 .1 .1 .1 .0
 
 returns : tie.Need-returns
 returns c =
@@ -57,19 +57,19 @@ units-from-requires : tie.Need-units-from-requires
 units-from-requires c κs = search needs
 
 same-length-6 : tie.Need-same-length-6
-same-length-6 c = read (c .before .before .before) .read-into .kept .1 .1 .1 .0
+same-length-6 c = read (c .before .before .before) .read-into .kept .1 .1 .0
 
 same-length-7 : tie.Need-same-length-7
-same-length-7 c = read (c .before .before .before) .read-into .kept .1 .1 .1 .1 .0
+same-length-7 c = read (c .before .before .before) .read-into .kept .1 .1 .1 .0
 
 same-length-8 : tie.Need-same-length-8
-same-length-8 c = read (c .before .before .before) .read-into .kept .1 .1 .1 .1 .1 .0
+same-length-8 c = read (c .before .before .before) .read-into .kept .1 .1 .1 .1 .0
 
 same-length-9 : tie.Need-same-length-9
-same-length-9 c = read (c .before .before .before) .read-into .kept .1 .1 .1 .1 .1 .1 .0
+same-length-9 c = read (c .before .before .before) .read-into .kept .1 .1 .1 .1 .1 .0
 
 same-length-10 : tie.Need-same-length-10
-same-length-10 c = read (c .before .before .before) .read-into .kept .1 .1 .1 .1 .1 .1 .1 .0
+same-length-10 c = read (c .before .before .before) .read-into .kept .1 .1 .1 .1 .1 .1 .0
 
 returns-2 : tie.Need-returns-2
 returns-2 c =
@@ -78,7 +78,7 @@ returns-2 c =
     let start = entry units in
     let x = start .args in
     let n = same-length-8 c ∙ start .pre .1 .starts in
-    let e = c .units-from .ensures ∙ ap (unitsOf (now (x .s)) groupLength 0 (x .run) (x .limit)) n in
+    let e = c .units-from .ensures ∙ ap (unitsOf (now (x .s)) groupLength 0 (x .day)) n in
     let u = units .read-into .ensures in
     ⊎-elim
     (λ w. told-refusal (pass-not (start .pre .0) u {q = broken} (w .0 .taken) (sym (w .4 .ensures) ∙ w .5 .left) refl) refl e)

@@ -40,47 +40,47 @@ refusal-requires : tie.Need-refusal-requires
 refusal-requires c κs = search needs
 
 same-length : tie.Need-same-length
-same-length c = units (c .before .before .before) .block-units .kept .1 .1 .1 .1 .0
+same-length c = units (c .before .before .before) .block-units .kept .1 .1 .1 .0
 
 same-length-2 : tie.Need-same-length-2
-same-length-2 c = units (c .before .before .before) .block-units .kept .1 .1 .1 .1 .1 .0
+same-length-2 c = units (c .before .before .before) .block-units .kept .1 .1 .1 .1 .0
 
 same-length-3 : tie.Need-same-length-3
-same-length-3 c = units (c .before .before .before) .block-units .kept .1 .1 .1 .1 .1 .1 .0
+same-length-3 c = units (c .before .before .before) .block-units .kept .1 .1 .1 .1 .1 .0
 
 same-length-4 : tie.Need-same-length-4
-same-length-4 c = units (c .before .before .before) .block-units .kept .1 .1 .1 .1 .1 .1 .1 .0
+same-length-4 c = units (c .before .before .before) .block-units .kept .1 .1 .1 .1 .1 .1 .0
 
 same-length-5 : tie.Need-same-length-5
-same-length-5 c = units (c .before .before .before) .block-units .kept .1 .1 .1 .1 .1 .1 .1 .1 .0
+same-length-5 c = units (c .before .before .before) .block-units .kept .1 .1 .1 .1 .1 .1 .1 .0
 
 returns : tie.Need-returns
 returns c =
     let told = c .before in
     let read = units (told .before .before) in
-    taking-refused _ _ _ _ _ (rw (c .refusal .ensures, told .enum-told .given .1) (sym (ap blockReply (told .enum-told .given .1)) ∙ read .block-units .ensures .replied))
+    taking-refused _ _ _ _ (rw (c .refusal .ensures, told .enum-told .given .1) (sym (ap blockReply (told .enum-told .given .1)) ∙ read .block-units .ensures .replied))
 
 same-length-6 : tie.Need-same-length-6
-same-length-6 c = units (c .before .before .before .before .before) .block-units .kept .1 .1 .1 .1 .0
+same-length-6 c = units (c .before .before .before .before .before) .block-units .kept .1 .1 .1 .0
 
 same-length-7 : tie.Need-same-length-7
-same-length-7 c = units (c .before .before .before .before .before) .block-units .kept .1 .1 .1 .1 .1 .0
+same-length-7 c = units (c .before .before .before .before .before) .block-units .kept .1 .1 .1 .1 .0
 
 same-length-8 : tie.Need-same-length-8
-same-length-8 c = units (c .before .before .before .before .before) .block-units .kept .1 .1 .1 .1 .1 .1 .0
+same-length-8 c = units (c .before .before .before .before .before) .block-units .kept .1 .1 .1 .1 .1 .0
 
 same-length-9 : tie.Need-same-length-9
-same-length-9 c = units (c .before .before .before .before .before) .block-units .kept .1 .1 .1 .1 .1 .1 .1 .0
+same-length-9 c = units (c .before .before .before .before .before) .block-units .kept .1 .1 .1 .1 .1 .1 .0
 
 same-length-10 : tie.Need-same-length-10
-same-length-10 c = units (c .before .before .before .before .before) .block-units .kept .1 .1 .1 .1 .1 .1 .1 .1 .0
+same-length-10 c = units (c .before .before .before .before .before) .block-units .kept .1 .1 .1 .1 .1 .1 .1 .0
 
 returns-2 : tie.Need-returns-2
 returns-2 c =
     let known = c .before .before .before in
     let read = units (known .before .before) in
     let e = sym (ap blockReply (known .b .given .1)) ∙ read .block-units .ensures .replied in
-    taking-small _ _ _ _ _ e refl (lt-leb (known .b .given .0 .0 .written) _ (c .if1 .taken))
+    taking-small _ _ _ _ e refl (lt-leb (known .b .given .0 .0 .written) _ (c .if1 .taken))
 
 -- the room is long enough for the block's result
 enough : (c : tie.Else1) → let known = c .before .before .before in let start = entry (units (known .before .before)) in resultLength (blockCount (now (start .args .s))) ≤ length (now (start .args .room))
@@ -89,7 +89,7 @@ enough c =
     let read = units (known .before .before) in
     let start = entry read in
     let e = sym (ap blockReply (known .b .given .1)) ∙ read .block-units .ensures .replied in
-    omega (arith, taken-long _ _ _ _ (now (start .args .room)) e (start .pre .0 .1), c .if1 .left)
+    omega (arith, taken-long _ _ _ (now (start .args .room)) e (start .pre .0 .1), c .if1 .left)
 
 write-passed-requires : tie.Need-write-passed-requires
 write-passed-requires c κs =
@@ -107,17 +107,17 @@ same-length-11 c = written c .write-passed .kept .1 .1 .0
 same-length-12 : tie.Need-same-length-12
 same-length-12 c =
     let read = units (enough-before (written c) .before .before .before .before .before) in
-    read .block-units .kept .1 .1 .1 .1 .0
+    read .block-units .kept .1 .1 .1 .0
 
 same-length-13 : tie.Need-same-length-13
 same-length-13 c =
     let read = units (enough-before (written c) .before .before .before .before .before) in
-    written c .write-passed .kept .1 .1 .1 .1 .0 ∙ read .block-units .kept .1 .1 .1 .1 .1 .0
+    written c .write-passed .kept .1 .1 .1 .1 .0 ∙ read .block-units .kept .1 .1 .1 .1 .0
 
 same-length-14 : tie.Need-same-length-14
 same-length-14 c =
     let read = units (enough-before (written c) .before .before .before .before .before) in
-    read .block-units .kept .1 .1 .1 .1 .1 .1 .0
+    read .block-units .kept .1 .1 .1 .1 .1 .0
 
 same-length-15 : tie.Need-same-length-15
 same-length-15 c = written c .write-passed .kept .1 .1 .1 .1 .1 .1 .0
@@ -128,12 +128,12 @@ same-length-16 c = written c .write-passed .kept .1 .1 .1 .1 .1 .1 .1 .0
 same-length-17 : tie.Need-same-length-17
 same-length-17 c =
     let read = units (enough-before (written c) .before .before .before .before .before) in
-    written c .write-passed .kept .1 .1 .1 .1 .1 .1 .1 .1 .0 ∙ read .block-units .kept .1 .1 .1 .1 .1 .1 .1 .0
+    written c .write-passed .kept .1 .1 .1 .1 .1 .1 .1 .1 .0 ∙ read .block-units .kept .1 .1 .1 .1 .1 .1 .0
 
 same-length-18 : tie.Need-same-length-18
 same-length-18 c =
     let read = units (enough-before (written c) .before .before .before .before .before) in
-    written c .write-passed .kept .1 .1 .1 .1 .1 .1 .1 .1 .1 .0 ∙ read .block-units .kept .1 .1 .1 .1 .1 .1 .1 .1 .0
+    written c .write-passed .kept .1 .1 .1 .1 .1 .1 .1 .1 .1 .0 ∙ read .block-units .kept .1 .1 .1 .1 .1 .1 .1 .0
 
 returns-3 : tie.Need-returns-3
 returns-3 c =
@@ -144,7 +144,7 @@ returns-3 c =
     let start = entry read in
     let e = sym (ap blockReply (known .b .given .1)) ∙ read .block-units .ensures .replied in
     let t = le-leb (known .b .given .0 .0 .written) (length (now (start .args .room))) (test .if1 .left) in
-    taking-done _ _ _ _ _ e t (wrote .write-passed .ensures)
+    taking-done _ _ _ _ e t (wrote .write-passed .ensures)
 
 pub take-through-spec : {M : Type 1} → statement M
 take-through-spec =

@@ -51,7 +51,7 @@ refusal-requires-2 : tie.Need-refusal-requires-2
 refusal-requires-2 c κs = search needs
 
 same-length : tie.Need-same-length
-same-length c = c .before .before .before .before .before .take-units .kept .1 .1 .1 .1 .0
+same-length c = c .before .before .before .before .before .take-units .kept .1 .1 .1 .0
 
 returns-2 : tie.Need-returns-2
 unfolding next blockAfter
@@ -72,7 +72,7 @@ counted-requires : tie.Need-counted-requires
 counted-requires c κs = search needs
 
 same-length-2 : tie.Need-same-length-2
-same-length-2 c = c .before .before .before .before .before .before .before .take-units .kept .1 .1 .1 .1 .0
+same-length-2 c = c .before .before .before .before .before .before .before .take-units .kept .1 .1 .1 .0
 
 returns-3 : tie.Need-returns-3
 unfolding next blockAfter
@@ -88,7 +88,7 @@ returns-3 c =
     let yes = rw (known .b .given .1) at (t .replied) in
     let wrote = rw (← yes) at (t .room) in
     let p = group-passed (now (x .s)) (x .day .«record») (x .day .last) e in
-    let l = took-long (now (x .s)) _ (x .day .«record» .run) (x .day .«record» .«margin_limit») (now (x .room)) yes (p .value) in
+    let l = took-long (now (x .s)) _ (x .day .«record») (now (x .room)) yes (p .value) in
     takes-room _ _ _ _ (right ∙ rw (← yes, c .counted .ensures)) (result-length (now (x .s)) _ _ ∙ sym l) wrote
 
 pub take-block-spec : {M : Type 1} → statement M

@@ -31,8 +31,8 @@ why-requires c κs = search needs
 place-of-requires : tie.Need-place-of-requires
 place-of-requires c κs = search needs
 
-add-t11 : tie.Need-add-t11
-add-t11 c =
+add-t10 : tie.Need-add-t10
+add-t10 c =
     let c-at = c .before .before .before in
     let s = c-at .before .before .before .before .before in
     omega (arith, c .place-of .ensures, place-within (c-at .c .given .0 .0), s .pre, s .good .0)
@@ -55,5 +55,5 @@ unit-judged-spec =
     returns
     why-requires
     place-of-requires
-    add-t11
+    add-t10
     returns-2)

@@ -15,15 +15,15 @@ use Rattle.records.proofs.units.units_from.Statement.{statement}
 use Rattle.records.proofs.units.units_from.Tie as tie
 
 abbrev Inv-loop : tie.InvT-loop
-Inv-loop s at count run limit floor₀ here₀ i₀ floor here i = Left (unitsAfter s run limit) (unitsOf s at 0 run limit count) count i (here, floor)
+Inv-loop s at count day floor₀ here₀ i₀ floor here i = Left (unitsAfter s day) (unitsOf s at 0 day count) count i (here, floor)
 
 abbrev μ-loop : tie.MeasureT-loop
-μ-loop s at count run limit floor₀ here₀ i₀ floor here i = count - i
+μ-loop s at count day floor₀ here₀ i₀ floor here i = count - i
 
 loop-holds : tie.Need-loop-holds Inv-loop μ-loop
 loop-holds c =
     let x = c .before .args in
-    start (units-steps (now (x .s)) (x .run) (x .limit)) (x .count) (x .at, 0)
+    start (units-steps (now (x .s)) (x .day)) (x .count) (x .at, 0)
 
 unit-at-requires : tie.Need-unit-at-requires Inv-loop μ-loop
 unit-at-requires c κs = search needs
@@ -46,7 +46,7 @@ returns c =
     let x = test .before .before .before .args in
     let e = sym (unit .unit-at .ensures) ∙ ap unitReply (told .enum-told .given .1) in
     rw (c .refusal .ensures, told .enum-told .given .1)
-    (stop (units-steps (now (x .s)) (x .run) (x .limit)) (x .count) (v .i) (v .inv) (test .loop-test .taken) e)
+    (stop (units-steps (now (x .s)) (x .day)) (x .count) (v .i) (v .inv) (test .loop-test .taken) e)
 
 cast-floor : tie.Need-cast-floor Inv-loop μ-loop
 cast-floor c = search needs
@@ -66,8 +66,8 @@ add-here c =
     let start = test .before .before .before in
     let x = start .args in
     let e = sym (unit .unit-at .ensures) ∙ ap unitReply (read .r .given .1) in
-    let is = ap lengthOf (unit-is (now (x .s)) (v .here) (v .floor) (x .run) (x .limit) e .1) in
-    omega (arith, c .length .ensures, is, unit-long (now (x .s)) (v .here) (v .floor) (x .run) (x .limit) e, start .good .0)
+    let is = ap lengthOf (unit-is (now (x .s)) (v .here) (v .floor) (x .day) e .1) in
+    omega (arith, c .length .ensures, is, unit-long (now (x .s)) (v .here) (v .floor) (x .day) e, start .good .0)
 
 add-i : tie.Need-add-i Inv-loop μ-loop
 add-i c = search needs
@@ -83,14 +83,14 @@ loop-again c =
     let v = test .before .loop in
     let x = test .before .before .before .args in
     let e = sym (unit .unit-at .ensures) ∙ ap unitReply (read .r .given .1) in
-    rw (c .length .ensures ∙ ap lengthOf (unit-is (now (x .s)) (v .here) (v .floor) (x .run) (x .limit) e .1))
-    (turn (units-steps (now (x .s)) (x .run) (x .limit)) (x .count) (v .i) (v .inv) (test .loop-test .taken) e)
+    rw (c .length .ensures ∙ ap lengthOf (unit-is (now (x .s)) (v .here) (v .floor) (x .day) e .1))
+    (turn (units-steps (now (x .s)) (x .day)) (x .count) (v .i) (v .inv) (test .loop-test .taken) e)
 
 returns-2 : tie.Need-returns-2 Inv-loop μ-loop
 returns-2 c =
     let v = c .before .loop in
     let x = c .before .before .before .args in
-    end (units-steps (now (x .s)) (x .run) (x .limit)) (x .count) (v .i) (v .inv) (c .loop-test .left)
+    end (units-steps (now (x .s)) (x .day)) (x .count) (v .i) (v .inv) (c .loop-test .left)
 
 pub units-from-spec : {M : Type 1} → statement M
 units-from-spec =
