@@ -11,7 +11,7 @@ use lib.IntN.{ℤ}
 use lib.ListN.{length, getD}
 use borrow.Author.Tests.{lt-ltb, le-ltb, eq-eqb, ne-eqb}
 use Rattle.numbers.specs.Column.{column, at}
-use Rattle.numbers.specs.Sum.{sum, sumTo, bit, count}
+use Rattle.numbers.specs.Sum.{sum, bit, count}
 use Rattle.numbers.proofs.Columns.{column-length, column-at, column-past, column-self, column-ext}
 use Rattle.numbers.proofs.Sums.{count-cong, count-all, sumTo-one, sumTo-mono, sumTo-lt, sumTo-mul, sum-bound, ltb-iff}
 use Rattle.terms.specs.Quantities.{sizeIn}
@@ -75,7 +75,7 @@ module _ {s : List ℕ} {r : Ratio} (h : Sharing s r) where
   pub total-pos : 0 < sum s
   total-pos = omega (arith, h .total, h .rated .less)
 
-  pub marks-length : length (marksOf s c) ≡ length s
+  marks-length : length (marksOf s c) ≡ length s
   unfolding marksOf
   marks-length = column-length (mark s c) (length s)
 

@@ -11,7 +11,7 @@ pub each-fits : {c t : ℕ} → c < t → c * one / t < one
 each-fits {c} {t} l = lt-of-mul-lt-mul-right t (omega (arith, div-add-mod' (c * one) t))
 
 -- a quotient and a remainder below the divisor are the only ones
-pub apart : (p t w r : ℕ) → w * t + r ≡ p → r < t → (w ≡ p / t) × (r ≡ p % t)
+apart : (p t w r : ℕ) → w * t + r ≡ p → r < t → (w ≡ p / t) × (r ≡ p % t)
 apart p t w r e l =
     let d : p / t * t + p % t ≡ p = div-add-mod' p t in
     let m : p % t < t = mod-lt p (omega arith) in

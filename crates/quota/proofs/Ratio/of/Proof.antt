@@ -1,5 +1,4 @@
 -- `Ratio::of` meets its contract: C is below T, so what each kWh bears is below one.
-use Prim.Native.Nat.{_<_}
 use native.Mathlib.Omega.{arith}
 use borrow.Author.Needs.{needs}
 use Rattle.quota.proofs.Ratios.{each-fits}
