@@ -206,7 +206,7 @@ static inline uint32_t count_above(const int32_t *key, unsigned units, int32_t b
     return (uint32_t)total(ADD(even, odd));
 }
 
-/* Moves both ends up to the keys between them: those above low, and not above high. */
+/* Moves both ends to the outermost keys between them: those above low, and not above high. */
 static inline void narrow(const int32_t *key, unsigned units, int32_t *low, int32_t *high)
 {
     __m128 first = FLOATS(ALL(KEY_MAX)), last = FLOATS(ZERO);
@@ -319,7 +319,7 @@ static __attribute__((noinline)) void part_few(struct columns *c, unsigned units
 
 /* ---- Step 2 ---- */
 
-/* Works out what each unit loses of the excess, but for the odd kWh: those go to the units with a key above the one given back. */
+/* Works out what each unit loses of the excess, but for odd kWh that no tie parts: those go to the units with a key above the one given back. */
 static inline __attribute__((always_inline)) v4 cut(struct columns *c, unsigned units, int32_t excess)
 {
     const v4 back = excess < 0 ? ALL(-1) : ZERO; /* turns withdrawals into sizes */

@@ -17,7 +17,7 @@ enum which {
     MNOM,   /* no cut; half of the units are not nominated, and coincide */
     RANDOM, /* anything valid */
     MCUT,   /* a cut; class, direction and what is sold differ from unit to unit */
-    TIED,   /* one class, odd sizes that rise, half of the total sold: remainders are equal, and half of the units get an odd kWh */
+    TIED,   /* one class, odd sizes that rise, half of the total sold: from 2 units on remainders are equal, and half of them get an odd kWh */
     CASES
 };
 static const char *const case_names[CASES] = {"nocut", "into1", "worst", "msign", "mnom", "random", "mcut", "tied"};

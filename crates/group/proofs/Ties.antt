@@ -1,5 +1,5 @@
 -- Of every group that is not refused (`Accepting.accepted`): the law of `Cuts` read off its n1 and n2.
-use Prim.Native.Nat.{ℕ, _*_, _/_, _≤_, _<_}
+use Prim.Native.Nat.{ℕ, _*_, _/_, _≤_}
 use mathlib.Core.Path.{_≡_}
 use native.Mathlib.Omega.{arith}
 use native.Mathlib.Decide.{decLt}
@@ -25,6 +25,6 @@ module _ (g : Group) (accepted : Accepted g) where
       go (no l) = omega arith
 
   pub group-larger-first : LargerFirst g
-  group-larger-first k i j hi hj e odd even =
-      law.larger-first (excess g) (n1 g) (g .class) (bearable-of g accepted .borne) (bearable-of g accepted .classed) k i j hi hj e
+  group-larger-first k i j hi hj odd even =
+      law.larger-first (excess g) (n1 g) (g .class) (bearable-of g accepted .borne) (bearable-of g accepted .classed) k i j hi hj
       (omega (arith, lost i)) (omega (arith, lost j, not-odd k j even))

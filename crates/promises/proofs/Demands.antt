@@ -105,11 +105,11 @@ module _ (day : Day) (s room : List ℕ) {step : Step} {exit : List ℕ} (o : Of
   pub block-cut-fairly : roleOf (byteAt s 0) ≡ Block → Demand3 (blockGroup s)
   block-cut-fairly = block-fair day s room o
 
-  -- And of units of one class with equal remainders the larger ones, then the earlier, lose the odd kWh.
+  -- ---- The odd kWh go to the largest remainders, among equal ones to the larger units first, then to the earlier.
   pub block-larger-first : roleOf (byteAt s 0) ≡ Block → LargerFirst (blockGroup s)
   block-larger-first is-block = group-larger-first (blockGroup s) (block-accepted day s room o is-block)
 
--- So both are of every group of columns that passes the checks, and of every block that the C call accepts.
+-- Both hold of every group of columns that passes the checks, and of every block that the C call accepts.
 pub group-cut-fairly : (g : Group) → Accepted g → Demand3 g
 group-cut-fairly = group-demand3
 

@@ -1,5 +1,5 @@
--- Of two units of one remainder the one that loses an odd kWh is the larger, or as large and earlier: it has fewer units before it than the other, which so does not come before it.
-use Prim.Native.Nat.{ℕ, _*_, _≤_, _<_}
+-- A unit that loses an odd kWh comes before one that does not: it has fewer units before it, and so the other does not come before it.
+use Prim.Native.Nat.{ℕ, _≤_, _<_}
 use mathlib.Core.Path.{_≡_, ap}
 use mathlib.Core.Logic.{_⊎_, inl, inr, ⊎-elim}
 use mathlib.Core.List.{List}
@@ -44,21 +44,19 @@ module _ (s : List ℕ) (c : ℕ) (pos : 0 < sum s) (le : c ≤ sum s) where
       go (yes m) = m
       go (no m) = absurd (omega (arith, rest-size s c k p, List·getD-eq-default s 0 {n = k} (omega arith)))
 
-  pub larger-dealt : (i j : ℕ) → rest s c i ≡ rest s c j → whole s c i < getD (cutsOf s c) i 0 → getD (cutsOf s c) j 0 ≤ whole s c j
-      → (getD s j 0 < getD s i 0) ⊎ ((getD s i 0 ≡ getD s j 0) × (i < j))
-  larger-dealt i j e p q =
-      ⊎-elim (λ b. told (before-why s c i j b)) (λ b. absurd (omega (arith, fewer, rank-lt (before s c) (order s c) (length s) j i here b))) (order s c .total i j apart)
+  -- so its remainder is larger; or as large, and it is the larger, or as large and earlier
+  pub larger-dealt : (i j : ℕ) → whole s c i < getD (cutsOf s c) i 0 → getD (cutsOf s c) j 0 ≤ whole s c j
+      → (rest s c j < rest s c i) ⊎ ((rest s c i ≡ rest s c j) × ((getD s j 0 < getD s i 0) ⊎ ((getD s i 0 ≡ getD s j 0) × (i < j))))
+  larger-dealt i j p q = go (decLt (rest s c j) (rest s c i))
     where
-      here : j < length s
-      here = inside j (omega (arith, dealt-rest s c pos le i (dealt i p)))
+      told : Why (rest s c j) (rest s c i) (getD s j 0) (getD s i 0) j i → (rest s c j < rest s c i) ⊎ ((rest s c i ≡ rest s c j) × ((getD s j 0 < getD s i 0) ⊎ ((getD s i 0 ≡ getD s j 0) × (i < j))))
+      told (by-rest l) = inl l
+      told (by-size f l) = inr (omega arith, inl l)
+      told (by-place f g l) = inr (omega arith, inr (omega arith, l))
 
-      fewer : place i < place j
-      fewer = omega (arith, dealt i p, not-dealt j here q)
-
-      apart : i ≡ j → ⊥
-      apart f = omega (arith, ap place f, fewer)
-
-      told : Why (rest s c j) (rest s c i) (getD s j 0) (getD s i 0) j i → (getD s j 0 < getD s i 0) ⊎ ((getD s i 0 ≡ getD s j 0) × (i < j))
-      told (by-rest l) = absurd (omega arith)
-      told (by-size f l) = inl l
-      told (by-place f g l) = inr (omega arith, l)
+      go : Dec (rest s c j < rest s c i) → (rest s c j < rest s c i) ⊎ ((rest s c i ≡ rest s c j) × ((getD s j 0 < getD s i 0) ⊎ ((getD s i 0 ≡ getD s j 0) × (i < j))))
+      go (yes l) = inl l
+      go (no l) =
+          let here : j < length s = inside j (omega (arith, dealt-rest s c pos le i (dealt i p))) in
+          let fewer : place i < place j = omega (arith, dealt i p, not-dealt j here q) in
+          ⊎-elim (λ b. told (before-why s c i j b)) (λ b. absurd (omega (arith, rank-lt (before s c) (order s c) (length s) j i here b))) (order s c .total i j (λ f. omega (arith, ap place f)))

@@ -1,7 +1,7 @@
 -- Marks tell the rule: no whole part is above `top`, and of units with a remainder those come first by their marks that come first by the rule.
 use Prim.Native.Nat.{ℕ, _+_, _*_, _/_, _≤_, _<_}
 use mathlib.Core.Path.{_≡_, refl, sym, _∙_, ap, ap₂, subst₂}
-use mathlib.Core.Bool.{Bool, true, false, _&&_, _||_}
+use mathlib.Core.Bool.{true}
 use mathlib.Core.List.{List}
 use native.Mathlib.Omega.{arith}
 use native.Mathlib.Nat.{mul-le-mul-left, lt-of-mul-lt-mul-right}
@@ -171,8 +171,8 @@ module _ {s : List ℕ} {r : Ratio} (h : Sharing s r) where
 
         go : Dec (0 < rest s c i) → dealtAt d (r .t) c x (at n1 i) (getD m i 0) ≡ whole s c i + bit (ltb place (still s c))
         go (yes p) =
-            let key : top < getD (marksOf s c) i 0 = omega (arith, mark-at i l, mark-rest (whole s c i) (rest s c i) p) in
-            rw (lt-ltb top (getD m i 0) (parts .keys i l′ key), again i p, parts .parts i l′ key, place-is i l p) refl
+            let over : top < getD (marksOf s c) i 0 = omega (arith, mark-at i l, mark-rest (whole s c i) (rest s c i) p) in
+            rw (lt-ltb top (getD m i 0) (parts .marks i l′ over), again i p, parts .parts i l′ over, place-is i l p) refl
         go (no p) =
             let e : getD (marksOf s c) i 0 ≡ whole s c i = mark-at i l ∙ mark-whole (whole s c i) (rest s c i) (omega arith) in
             let f : getD m i 0 ≡ whole s c i = parts .wholes i l′ (omega (arith, whole-small i)) ∙ e in

@@ -30,7 +30,7 @@ above-strict l x k kl h =
     (subst₂ (λ (p q : Bool). bit p < bit q) (sym (le-ltb (getD l k 0) (getD l k 0) (le-refl (getD l k 0)))) (sym (lt-ltb x (getD l k 0) h)) (le-refl 1))
 
 -- none is above what none passes
-pub none-above : (l : List ℕ) (x : ℕ) → ((k : ℕ) → getD l k 0 ≤ x) → above l x ≡ 0
+none-above : (l : List ℕ) (x : ℕ) → ((k : ℕ) → getD l k 0 ≤ x) → above l x ≡ 0
 unfolding above count
 none-above l x h = sumTo-none (length l) (λ (j : ℕ). bit (ltb x (getD l j 0))) (λ j. ap bit (le-ltb x (getD l j 0) (h j)))
 
@@ -89,7 +89,8 @@ pub record Decided (l : List ℕ) (left low low′ high′ j : ℕ) : Type 0 whe
   pub done : (k : ℕ) → k < j → (getD l k 0 ≤ low′) ⊎ (high′ ≤ getD l k 0)
 
 -- where the lower end is told once more
-lows-on : (l : List ℕ) {left low low₁ low₂ : ℕ} → (low₁ ≡ low) ⊎ (left ≤ above l low₁) → (low₂ ≡ low₁) ⊎ (left ≤ above l low₂) → (low₂ ≡ low) ⊎ (left ≤ above l low₂)
+lows-on : (l : List ℕ) {left low low₁ low₂ : ℕ} → (low₁ ≡ low) ⊎ (left ≤ above l low₁) → (low₂ ≡ low₁) ⊎ (left ≤ above l low₂)
+    → (low₂ ≡ low) ⊎ (left ≤ above l low₂)
 lows-on l p q = ⊎-elim (λ e. ⊎-elim (λ d. inl (e ∙ d)) (λ d. inr (omega (arith, ap (above l) e))) p) (λ e. inr e) q
 
 pub decided-none : {l : List ℕ} {left low high : ℕ} → Spans l left low high → Decided l left low low high 0
@@ -123,8 +124,8 @@ decided-end h end =
     }
 
 -- parted from where two numbers had been tried is parted from the start
-pub tried-parted : {l : List ℕ} {left low high x y low₁ high₁ low₂ high₂ low₃ high₃ : ℕ} → Narrowed l left low high x low₁ high₁ → Narrowed l left low₁ high₁ y low₂ high₂ →
-    Parted l left low₂ low₃ high₃ → Parted l left low low₃ high₃
+pub tried-parted : {l : List ℕ} {left low high x y low₁ high₁ low₂ high₂ low₃ high₃ : ℕ} → Narrowed l left low high x low₁ high₁
+    → Narrowed l left low₁ high₁ y low₂ high₂ → Parted l left low₂ low₃ high₃ → Parted l left low low₃ high₃
 tried-parted {l} n m p =
     record {
       spans = p .spans;
@@ -137,7 +138,7 @@ module _ {l : List ℕ} {left low low′ high′ : ℕ} (p : Parted l left low l
   below-low : (k : ℕ) → low < getD l k 0 → getD l k 0 ≤ low′ → left ≤ above l (getD l k 0)
   below-low k a m = ⊎-elim (λ e. absurd (omega arith)) (λ e. omega (arith, above-mono l (getD l k 0) low′ m)) (p .lows)
 
-  -- with open ends every mark below the upper one has at least as many above it as are left
+  -- where the ends are two numbers every mark below the upper one has at least as many above it as are left
   pub below-high : low′ < high′ → (k : ℕ) → k < length l → low < getD l k 0 → getD l k 0 < high′ → left ≤ above l (getD l k 0)
   below-high apart k kl a m = ⊎-elim (λ d. below-low k a d) (λ d. absurd (omega arith)) (p .decided apart k kl)
 

@@ -96,31 +96,31 @@ pub record Narrowed (l : List ℕ) (left low high x low′ high′ : ℕ) : Type
   pub lows : (low′ ≡ low) ⊎ (left ≤ above l low′)
   pub decided : (x ≤ low′) ⊎ (high′ ≤ x)
 
--- the same of every mark, unless both ends are one number
+-- a span in which no mark lies, unless both ends are one number; its lower end is where it began, or at least as many marks are above it as kWh are left
 pub record Parted (l : List ℕ) (left low low′ high′ : ℕ) : Type 0 where
   pub spans : Spans l left low′ high′
   pub lower : low ≤ low′
   pub lows : (low′ ≡ low) ⊎ (left ≤ above l low′)
   pub decided : low′ < high′ → (k : ℕ) → k < length l → (getD l k 0 ≤ low′) ⊎ (high′ ≤ getD l k 0)
 
--- some of the units of one mark are dealt a kWh, and not all: fewer marks are above it than kWh are left, and at least so many above every mark below it
-pub record Tie (l : List ℕ) (left one : ℕ) : Type 0 where
-  pub marks : top < one
-  pub over : above l one < left
-  pub under : (k : ℕ) → k < length l → top < getD l k 0 → getD l k 0 < one → left ≤ above l (getD l k 0)
+-- of the units that share a mark not all may be dealt a kWh: fewer marks are above it than kWh are left, and at least so many above every mark below it
+pub record Tie (l : List ℕ) (left shared : ℕ) : Type 0 where
+  pub marks : top < shared
+  pub over : above l shared < left
+  pub under : (k : ℕ) → k < length l → top < getD l k 0 → getD l k 0 < shared → left ≤ above l (getD l k 0)
 
--- the mark m of unit i, of n kWh, where the units of one mark are told apart: a mark below it stays, one above it has won, and that mark gives way to size and place, which is below 64
+-- the mark m of unit i, of n kWh, where the units are told apart that share a mark: one below it stays, one above it has won, and the shared one gives way to size and place; i is below 64
 unfoldable pub remarkBy : ℕ → ℕ → ℕ → ℕ → ℕ
-remarkBy one m n i = pick (ltb m one) m (pick (ltb one m) won (tied + n * 64 + (64 - i)))
+remarkBy shared m n i = pick (ltb m shared) m (pick (ltb shared m) won (tied + n * 64 + (64 - i)))
 
 unfoldable pub remarksOf : ℕ → Direction → List ℤ → List ℕ → List ℕ
-remarksOf one d n1 l = column (length l) (λ (i : ℕ). remarkBy one (getD l i 0) (sizeIn d (at n1 i)) i)
+remarksOf shared d n1 l = column (length l) (λ (i : ℕ). remarkBy shared (getD l i 0) (sizeIn d (at n1 i)) i)
 
--- marks m in place of the marks l, in which the whole parts stand as they were, and a number above which are just the marks of units that have fewer before them than kWh are left
+-- marks m in place of the marks l: whole parts stand as they were, marks of remainders lie above top, and of them those of units that have fewer before them than kWh are left above x
 pub record Parts (l : List ℕ) (left : ℕ) (d : Direction) (n1 : List ℤ) (m : List ℕ) (x : ℕ) : Type 0 where
   pub places : length m ≡ length l
   pub wholes : (k : ℕ) → k < length l → getD l k 0 ≤ top → getD m k 0 ≡ getD l k 0
-  pub keys : (k : ℕ) → k < length l → top < getD l k 0 → top < getD m k 0
+  pub marks : (k : ℕ) → k < length l → top < getD l k 0 → top < getD m k 0
   pub parts : (k : ℕ) → k < length l → top < getD l k 0 → ltb x (getD m k 0) ≡ ltb (rank (earlierBy l d n1) (length l) k) left
 
 -- what a unit of n kWh in the direction loses whose mark is m: its mark where that is a whole part, else its whole part again and one kWh more where the mark is above x

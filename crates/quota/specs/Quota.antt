@@ -16,11 +16,11 @@ whole s c i = c * getD s i 0 / sum s
 unfoldable pub rest : List ℕ → ℕ → ℕ → ℕ
 rest s c i = c * getD s i 0 % sum s
 
--- of two units of one remainder unit j, of size n, comes before unit i, of size m: it is larger, or as large and earlier in the group
+-- of two units of one remainder, unit j, of size n, comes before unit i, of size m: it is larger, or as large and earlier in the group
 unfoldable pub largerFirst : ℕ → ℕ → ℕ → ℕ → Bool
 largerFirst m n i j = ltb m n || (eqb m n && ltb j i)
 
--- unit j, of remainder y and size n, comes before unit i, of remainder x and size m: y is larger, or equal and j comes first by size
+-- unit j, of remainder y and size n, comes before unit i, of remainder x and size m: y is larger, or equal and j comes first by size and place
 unfoldable pub ahead : ℕ → ℕ → ℕ → ℕ → ℕ → ℕ → Bool
 ahead x y m n i j = ltb x y || (eqb x y && largerFirst m n i j)
 

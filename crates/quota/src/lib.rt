@@ -101,13 +101,13 @@ fn above(marks: &[u32], x: u32) -> u32
     r
 }
 
-// Marks up to low are not dealt a kWh, marks above high are; where the two are one number, just so many are above it as kWh are left.
+// Marks up to low are not dealt a kWh, and marks above high are; where the two are one number, just so many are above it as kWh are left.
 struct Span {
     low: u32,
     high: u32,
 }
 
-// The span in which x is not left open.
+// The span without x inside it: what lies above x is counted, and an end moves there, or both.
 fn narrowed(marks: &[u32], left: u32, span: Span, x: u32) -> Span
     requires { ⌜ (length (now marks) ≤ 64) × Spans (now marks) left (span .low) (span .high) ⌝ }
     ensures { λ r. ⌜ Narrowed (now (marks .entry)) left (span .low) (span .high) x (r .low) (r .high) ⌝ }
@@ -134,7 +134,7 @@ fn narrowed(marks: &[u32], left: u32, span: Span, x: u32) -> Span
     Span { low: x, high: x }
 }
 
-// The span in which no mark is left open: each that still is, is tried.
+// The span without a mark inside it: each that lies there is tried, until both ends are one number.
 fn parted(marks: &[u32], left: u32, wide: Span) -> Span
     requires { ⌜ (length (now marks) ≤ 64) × Spans (now marks) left (wide .low) (wide .high) ⌝ }
     ensures { λ r. ⌜ Parted (now (marks .entry)) left (wide .low) (r .low) (r .high) ⌝ }
@@ -148,37 +148,38 @@ fn parted(marks: &[u32], left: u32, wide: Span) -> Span
     span
 }
 
-// The mark of unit i, of size n, where the units of one mark are told apart.
-fn remark(one: u32, mark: u32, n: u32, i: usize) -> u32
+// The mark of unit i, of size n, where the units are told apart that share a mark: a mark below it stays, and one above it has won.
+fn remark(shared: u32, mark: u32, n: u32, i: usize) -> u32
     requires { ⌜ (n ≤ 1000000) × (i < 64) ⌝ }
-    ensures { λ r. ⌜ r ≡ remarkBy one mark n i ⌝ }
+    ensures { λ r. ⌜ r ≡ remarkBy shared mark n i ⌝ }
 {
-    if mark < one {
+    if mark < shared {
         return mark;
     }
-    if one < mark {
+    if shared < mark {
         return WON;
     }
     TIED + n * 64 + (64 - i as u32)
 }
 
-fn remark_all(marks: &mut [u32], one: u32, d: Direction, n1: &[i32])
+// Each mark gives way to one that tells the units apart which share a mark.
+fn remark_all(marks: &mut [u32], shared: u32, d: Direction, n1: &[i32])
     requires { ⌜ (length (now marks) ≤ 64) × AllWithin 1000000 (now n1) × (length (now marks) ≡ length (now n1)) ⌝ }
-    ensures { λ _. ⌜ now (marks .exit) ≡ remarksOf one d (now (n1 .entry)) (now (marks .entry)) ⌝ }
+    ensures { λ _. ⌜ now (marks .exit) ≡ remarksOf shared d (now (n1 .entry)) (now (marks .entry)) ⌝ }
 {
     let mut i = 0;
     while i < n1.len() {
-        marks[i] = remark(one, marks[i], d.size(n1[i]), i);
+        marks[i] = remark(shared, marks[i], d.size(n1[i]), i);
         i += 1;
     }
 }
 
-// The number where units of one mark have to be told apart. First two marks are tried, the right ones where sizes rise, and where they fall or are equal, from unit to unit.
-fn untied(marks: &mut [u32], left: u32, one: u32, d: Direction, n1: &[i32]) -> u32
-    requires { ⌜ Marked (now marks) left × Tie (now marks) left one × AllWithin 1000000 (now n1) × (length (now marks) ≡ length (now n1)) ⌝ }
+// The number of `bound`, where units that share a mark have to be told apart. Two marks are tried first, which are right at once where all units share the mark and their sizes rise from unit to unit, or fall or are equal.
+fn untied(marks: &mut [u32], left: u32, shared: u32, d: Direction, n1: &[i32]) -> u32
+    requires { ⌜ Marked (now marks) left × Tie (now marks) left shared × AllWithin 1000000 (now n1) × (length (now marks) ≡ length (now n1)) ⌝ }
     ensures { λ r. ⌜ Parts (now (marks .entry)) left d (now (n1 .entry)) (now (marks .exit)) r ⌝ }
 {
-    remark_all(marks, one, d, n1);
+    remark_all(marks, shared, d, n1);
     let wide = Span {
         low: TIED,
         high: WON,
@@ -188,7 +189,7 @@ fn untied(marks: &mut [u32], left: u32, one: u32, d: Direction, n1: &[i32]) -> u
     parted(marks, left, next).low
 }
 
-// A number above which are just the marks of the units that are dealt a kWh. First the middle is tried, and the mark that is the right one where all units have one remainder. Where no number has just so many marks above it as kWh are left, the upper end is the mark of more units than there are kWh for.
+// A number above which are just the marks of the units that are dealt a kWh. First the middle is tried, and the mark that is right at once where remainders fall from unit to unit. Where no mark lies between the ends, and they are two, the upper one is a mark that more units share than there are kWh for.
 fn bound(marks: &mut [u32], left: u32, t: u32, d: Direction, n1: &[i32]) -> u32
     requires { ⌜ Marked (now marks) left × (t ≤ 64000000) × AllWithin 1000000 (now n1) × (length (now marks) ≡ length (now n1)) ⌝ }
     ensures { λ r. ⌜ Parts (now (marks .entry)) left d (now (n1 .entry)) (now (marks .exit)) r ⌝ }
@@ -218,7 +219,7 @@ fn dealt_to(ratio: Ratio, d: Direction, x: u32, n1: i32, mark: u32) -> u32
     share.whole + (x < mark) as u32
 }
 
-// Each mark gives way to its unit's cut; n1 tells the size that a key stands for.
+// Each mark gives way to its unit's cut; n1 tells the size that a mark stands for.
 fn deal(ratio: Ratio, d: Direction, x: u32, n1: &[i32], cuts: &mut [u32])
     requires { ⌜ Rated ratio × AllWithin 1000000 (now n1) × (length (now cuts) ≡ length (now n1)) ⌝ }
     ensures { λ _. ⌜ now (cuts .exit) ≡ column (length (now (cuts .entry))) (λ (i : ℕ). dealtAt d (ratio .t) (ratio .c) x (at (now (n1 .entry)) i) (getD (now (cuts .entry)) i 0)) ⌝ }

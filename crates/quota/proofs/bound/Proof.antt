@@ -1,4 +1,4 @@
--- `bound` meets its contract: both ends of the span are one number, or the upper one is the mark of units to tell apart.
+-- `bound` meets its contract: both ends of the span are one number, or the upper one is the mark that units to tell apart share.
 use native.Mathlib.Omega.{arith}
 use borrow.Author.Needs.{needs}
 use denote.Ref.{now}
@@ -39,8 +39,8 @@ returns c =
 untied-requires : tie.Need-untied-requires
 untied-requires c κs =
     let start = c .before .before .before .before .before .before .before .before .before .before in
-    let p =
-    tried-parted (c .before .before .before .before .before .before .before .narrowed .ensures) (c .before .before .before .before .before .narrowed2 .ensures) (c .before .before .before .parted .ensures) in
+    let second = c .before .before .before .before .before in
+    let p = tried-parted (second .before .before .narrowed .ensures) (second .narrowed2 .ensures) (c .before .before .before .parted .ensures) in
     (start .pre .0, tie-of p (omega (arith, p .spans .order, c .before .if1 .left)), start .pre .2, start .pre .3)
 
 same-length-2 : tie.Need-same-length-2

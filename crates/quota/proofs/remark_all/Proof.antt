@@ -2,7 +2,7 @@
 use Prim.Native.Nat.{ℕ, _-_}
 use native.Mathlib.Omega.{arith}
 use borrow.Author.Needs.{needs}
-use mathlib.Core.Path.{_≡_, refl, _∙_, ap, ap₂}
+use mathlib.Core.Path.{_≡_, refl, _∙_, ap₂}
 use denote.Ref.{now}
 use mir.Syntax.{w32}
 use mir.Val.{SFits}
@@ -17,10 +17,10 @@ use Rattle.quota.proofs.remark_all.Statement.{statement}
 use Rattle.quota.proofs.remark_all.Tie as tie
 
 abbrev Inv-loop : tie.InvT-loop
-Inv-loop marks₀ one d n1 i₀ marks i = Filled (λ (j : ℕ). remarkBy one (getD marks₀ j 0) (sizeIn d (at n1 j)) j) (length marks₀) marks₀ marks i
+Inv-loop marks₀ shared d n1 i₀ marks i = Filled (λ (j : ℕ). remarkBy shared (getD marks₀ j 0) (sizeIn d (at n1 j)) j) (length marks₀) marks₀ marks i
 
 abbrev μ-loop : tie.MeasureT-loop
-μ-loop marks₀ one d n1 i₀ marks i = length n1 - i
+μ-loop marks₀ shared d n1 i₀ marks i = length n1 - i
 
 loop-holds : tie.Need-loop-holds Inv-loop μ-loop
 loop-holds c = filled-start _ _ _
@@ -72,7 +72,7 @@ loop-again c =
     let a = c .before .before .before .before .before .before .before .args in
     let l = c .before .before .before .before .before .loop in
     filled-turn (l .inv) refl 0
-    (c .remark .ensures ∙ ap₂ (λ (m n : ℕ). remarkBy (a .one) m n (l .i)) (filled-next (l .inv) refl 0 (omega arith)) (sized (c .before)))
+    (c .remark .ensures ∙ ap₂ (λ (m n : ℕ). remarkBy (a .shared) m n (l .i)) (filled-next (l .inv) refl 0 (omega arith)) (sized (c .before)))
     (omega arith)
 
 same-length : tie.Need-same-length Inv-loop μ-loop

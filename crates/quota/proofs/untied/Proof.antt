@@ -1,5 +1,5 @@
--- `untied` meets its contract: the units of one mark are told apart, and their marks parted from where two numbers were tried.
-use mathlib.Core.Path.{_≡_, sym, ap, subst, subst₂}
+-- `untied` meets its contract: the units that share a mark are told apart, and their marks parted from where two numbers were tried.
+use mathlib.Core.Path.{sym, ap, subst}
 use mathlib.Core.List.{List}
 use Prim.Native.Nat.{ℕ}
 use native.Mathlib.Omega.{arith}
