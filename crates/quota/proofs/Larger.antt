@@ -44,19 +44,22 @@ module _ (s : List ℕ) (c : ℕ) (pos : 0 < sum s) (le : c ≤ sum s) where
       go (yes m) = m
       go (no m) = absurd (omega (arith, rest-size s c k p, List·getD-eq-default s 0 {n = k} (omega arith)))
 
-  -- so its remainder is larger; or as large, and it is the larger, or as large and earlier
-  pub larger-dealt : (i j : ℕ) → whole s c i < getD (cutsOf s c) i 0 → getD (cutsOf s c) j 0 ≤ whole s c j
-      → (rest s c j < rest s c i) ⊎ ((rest s c i ≡ rest s c j) × ((getD s j 0 < getD s i 0) ⊎ ((getD s i 0 ≡ getD s j 0) × (i < j))))
+  -- unit i has the larger remainder; or as large a one as unit j, and it is the larger, or as large and earlier
+  abbrev pub First : ℕ → ℕ → Type 0
+  First i j = (rest s c j < rest s c i) ⊎ ((rest s c i ≡ rest s c j) × ((getD s j 0 < getD s i 0) ⊎ ((getD s i 0 ≡ getD s j 0) × (i < j))))
+
+  first-why : (i j : ℕ) → Why (rest s c j) (rest s c i) (getD s j 0) (getD s i 0) j i → First i j
+  first-why i j (by-rest l) = inl l
+  first-why i j (by-size f l) = inr (omega arith, inl l)
+  first-why i j (by-place f g l) = inr (omega arith, inr (omega arith, l))
+
+  pub larger-dealt : (i j : ℕ) → whole s c i < getD (cutsOf s c) i 0 → getD (cutsOf s c) j 0 ≤ whole s c j → First i j
   larger-dealt i j p q = go (decLt (rest s c j) (rest s c i))
     where
-      told : Why (rest s c j) (rest s c i) (getD s j 0) (getD s i 0) j i → (rest s c j < rest s c i) ⊎ ((rest s c i ≡ rest s c j) × ((getD s j 0 < getD s i 0) ⊎ ((getD s i 0 ≡ getD s j 0) × (i < j))))
-      told (by-rest l) = inl l
-      told (by-size f l) = inr (omega arith, inl l)
-      told (by-place f g l) = inr (omega arith, inr (omega arith, l))
-
-      go : Dec (rest s c j < rest s c i) → (rest s c j < rest s c i) ⊎ ((rest s c i ≡ rest s c j) × ((getD s j 0 < getD s i 0) ⊎ ((getD s i 0 ≡ getD s j 0) × (i < j))))
+      go : Dec (rest s c j < rest s c i) → First i j
       go (yes l) = inl l
       go (no l) =
           let here : j < length s = inside j (omega (arith, dealt-rest s c pos le i (dealt i p))) in
           let fewer : place i < place j = omega (arith, dealt i p, not-dealt j here q) in
-          ⊎-elim (λ b. told (before-why s c i j b)) (λ b. absurd (omega (arith, rank-lt (before s c) (order s c) (length s) j i here b))) (order s c .total i j (λ f. omega (arith, ap place f)))
+          ⊎-elim (λ b. first-why i j (before-why s c i j b)) (λ b. absurd (omega (arith, rank-lt (before s c) (order s c) (length s) j i here b)))
+          (order s c .total i j (λ f. omega (arith, ap place f)))
