@@ -21,7 +21,7 @@ extern "C" {
 #endif
 
 /* The version of this header and of the library it came with. */
-#define FLEHWELLA_VERSION "0.3.1"
+#define FLEHWELLA_VERSION "0.4.0"
 
 /* Lengths in bytes of what goes in: a day record; a group record and its unit records, which together are a block. */
 #define FLEHWELLA_DAY_LENGTH 12

@@ -4,8 +4,8 @@
 usage: tests/figures.py            the lines, for crates/figures/stdout
        tests/figures.py --check    compares that file with them
 
-What "Small figures" tells of a figure is asserted of its line. Each case of "Readings to rule out" is
-also worked out under the wrong reading, and must come out otherwise.
+What "Small figures" tells of a figure is asserted of its line, and what request §6 makes of a tie. Each
+case of "Readings to rule out" is also worked out under the wrong reading, and must come out otherwise.
 """
 
 import pathlib
@@ -60,7 +60,7 @@ def shares(sizes, bearing, cut, wrong):
     if wrong == "rounded alone":
         return [int(e + Fraction(1, 2)) for e in exact]
     lost = [int(e) for e in exact]
-    by_remainder = sorted(range(len(exact)), key=lambda i: (lost[i] - exact[i], i))
+    by_remainder = sorted(range(len(exact)), key=lambda i: (lost[i] - exact[i], -sizes[i], i))
     for i in by_remainder[: min(cut, total) - sum(lost)]:
         lost[i] += 1
     return lost
@@ -140,6 +140,12 @@ SMALL = [
     ("M+ 1,000,001", [unit(0, high=LIMIT + 1)], {"refused": [8]}),
     ("M+ -1,000,001", [unit(0, high=-LIMIT - 1)], {"refused": [8]}),
 ]
+TIES = [  # Request §6
+    ("1, 3; P -2", wide(-2, 1, 3), {"n3": [1, 1]}),
+    ("3, 1; P -2", wide(-2, 3, 1), {"n3": [1, 1]}),
+    ("-1, -3; P 2", wide(2, -1, -3), {"n3": [-1, -1]}),
+    ("1, 3, 5, 7; P -8", wide(-8, 1, 3, 5, 7), {"n3": [1, 2, 2, 3]}),
+]
 READINGS = [
     ("4 class 0, 12 class 1; P -8", [unit(4, -8), unit(12, cls=1)], "classes together"),
     ("20, 10, -15; P 0", wide(0, 20, 10, -15), "directions together"),
@@ -176,7 +182,7 @@ def line(name, out):
 
 
 def lines():
-    for name, units, told in SMALL:
+    for name, units, told in SMALL + TIES:
         out = judge(units)
         for word, values in told.items():
             assert out.get(word) == values, (name, word, out)

@@ -6,7 +6,8 @@
  *    the second program judges the block;
  *  - whole parts and remainders of the shares come from exact arithmetic on doubles: C n is below 2^53 and so exact, and the
  *    quotient, below 10^6, lies at least 1/T from the next whole number, far more than its rounding;
- *  - the odd kWh go to the units whose keys lie above a threshold, which is found by counting in vectors;
+ *  - the odd kWh go to the units whose remainders lie above a threshold, which is found by counting in vectors; sizes and places
+ *    are looked at only where it would part equal remainders;
  *  - results are built in vectors, turned into rows and stored 16 bytes at a time. */
 #include "../second/second.h"
 
@@ -31,6 +32,7 @@ typedef __m128i v4;
 enum {
     QUANTITY_MAX = 1000000,
     UNITS_MIN = 4,
+    KEY_MAX = (1 << 26) - 1, /* a remainder is below 64 * QUANTITY_MAX, and a size with its place hardly above */
     KEYS_FEW = 16 /* so few keys are counted each against each, since a bisection is guessed wrong at every turn */
 };
 
@@ -112,7 +114,7 @@ static inline void transpose(v4 *a, v4 *b, v4 *c, v4 *d)
 
 /* What is kept of the units; columns that are read past the last unit have room for it. */
 struct columns {
-    int32_t n0[64], n1[68], m_down[64], m_up[64], head[64], class_of[68], not_implicit[64], loss[68], key[72];
+    int32_t n0[64], n1[68], m_down[64], m_up[64], head[64], class_of[68], not_implicit[64], loss[68], key[72], rank[72];
 };
 
 struct gathered {
@@ -167,28 +169,86 @@ static inline __attribute__((always_inline)) v4 read_4(const uint8_t *at, struct
 
 /* ---- The odd kWh ---- */
 
-/* What exactly `left` of the keys lie above. Keys differ but for those without a remainder, which are at the bottom. */
-static inline int32_t bisected(const int32_t *key, unsigned units, uint32_t left, uint32_t top)
+/* Keys are below 2^26, and with this bit they are ordered as floats too, whose lesser and greater are one instruction each. */
+#define BIT 0x40000000
+#define FLOATS(x) _mm_castsi128_ps(OR(x, ALL(BIT)))
+
+static inline int32_t key_of(__m128 x)
 {
-    for (uint32_t low = 0, high = top;;) { /* more than `left` above low, fewer above high */
-        const uint32_t middle = low + (high - low) / 2;
-        const v4 bar = ALL(middle ^ TOP);
-        v4 even = ZERO, odd = ZERO;
-        for (unsigned i = 0; i < units; i += 8) {
-            even = SUB(even, GT(LOAD(key + i), bar));
-            odd = SUB(odd, GT(LOAD(key + i + 4), bar));
-        }
-        const uint32_t above = (uint32_t)total(ADD(even, odd));
-        if (above == left)
-            return (int32_t)(middle ^ TOP);
-        if (above > left)
-            low = middle;
-        else
-            high = middle;
-    }
+    return _mm_cvtsi128_si32(_mm_castps_si128(x)) ^ BIT;
 }
 
-/* The same: the one key that has exactly `left` above it. */
+/* The lesser, but for keys that are passed over: their masks make them NaN, and beside a NaN the second operand is taken. */
+static inline __m128 least_but(__m128 least, v4 key, v4 passed_over)
+{
+    return _mm_min_ps(FLOATS(OR(key, passed_over)), least);
+}
+
+static inline int32_t least_of(__m128 x)
+{
+    x = _mm_min_ps(x, _mm_movehl_ps(x, x));
+    return key_of(_mm_min_ps(x, _mm_shuffle_ps(x, x, 0x55)));
+}
+
+static inline int32_t most_of(__m128 x)
+{
+    x = _mm_max_ps(x, _mm_movehl_ps(x, x));
+    return key_of(_mm_max_ps(x, _mm_shuffle_ps(x, x, 0x55)));
+}
+
+static inline uint32_t count_above(const int32_t *key, unsigned units, int32_t bar)
+{
+    v4 even = ZERO, odd = ZERO;
+    for (unsigned i = 0; i < units; i += 8) {
+        even = SUB(even, GT(LOAD(key + i), ALL(bar)));
+        odd = SUB(odd, GT(LOAD(key + i + 4), ALL(bar)));
+    }
+    return (uint32_t)total(ADD(even, odd));
+}
+
+/* Moves both ends to the outermost keys between them: those above low, and not above high. */
+static inline void narrow(const int32_t *key, unsigned units, int32_t *low, int32_t *high)
+{
+    __m128 first = FLOATS(ALL(KEY_MAX)), last = FLOATS(ZERO);
+    for (unsigned i = 0; i < units; i += 4) {
+        const v4 mine = LOAD(key + i);
+        first = least_but(first, mine, GT(ALL(*low + 1), mine));
+        last = _mm_max_ps(last, FLOATS(NOTAND(GT(mine, ALL(*high)), mine)));
+    }
+    *low = least_of(first) - 1;
+    *high = most_of(last);
+}
+
+/* What exactly `left` of the keys lie above, where more of them lie above low and fewer above high; or what fewer do, the key of
+ * equal ones that would be parted. */
+struct threshold {
+    int32_t key;
+    int parts;
+};
+
+static inline struct threshold bisected(const int32_t *key, unsigned units, uint32_t left, int32_t low, int32_t high)
+{
+    uint32_t above_low = UINT32_MAX, above_high = 0;
+    while (high - low > 1) {
+        const int32_t middle = low + (high - low) / 2;
+        const uint32_t above = count_above(key, units, middle);
+        if (above == left)
+            return (struct threshold){middle, 0};
+        const int wasted = above == above_low || above == above_high; /* keys lie close together, or are equal */
+        if (above > left) {
+            low = middle;
+            above_low = above;
+        } else {
+            high = middle;
+            above_high = above;
+        }
+        if (wasted)
+            narrow(key, units, &low, &high);
+    }
+    return (struct threshold){high, 1};
+}
+
+/* The same of few: the key that has exactly `left` above it, or 0 where there is none, since equal ones would be parted. */
 static inline int32_t counted(const int32_t *key, unsigned units, uint32_t left)
 {
     v4 found = ZERO;
@@ -203,9 +263,63 @@ static inline int32_t counted(const int32_t *key, unsigned units, uint32_t left)
     return _mm_cvtsi128_si32(OR(found, _mm_shuffle_epi32(found, 0x55)));
 }
 
+/* Ranks units among those of an equal key: the larger above the smaller, and of equal sizes the earlier above the later, by
+ * places that fall from 63. */
+static inline v4 rank_of(const int32_t *n1, v4 back, v4 *places)
+{
+    const v4 rank = ADD(_mm_slli_epi32(SUB(XOR(LOAD(n1), back), back), 6), *places);
+    *places = SUB(*places, ALL(4));
+    return rank;
+}
+
+/* Gives the odd kWh of many units where those of the key `bar` are parted. */
+static __attribute__((noinline)) void part_many(struct columns *c, unsigned units, uint32_t left, v4 back, int32_t bar)
+{
+    v4 above = ZERO, places = _mm_set_epi32(60, 61, 62, 63);
+    unsigned i = 0;
+    for (; i < units; i += 4) {
+        const v4 key = LOAD(c->key + i);
+        above = SUB(above, GT(key, ALL(bar)));
+        STORE(c->rank + i, AND(EQ(key, ALL(bar)), rank_of(c->n1 + i, back, &places)));
+    }
+    STORE(c->rank + i, ZERO);
+    int32_t low = 0, high = KEY_MAX;
+    narrow(c->rank, units, &low, &high);
+    const int32_t rank = bisected(c->rank, units, left - (uint32_t)total(above), low, high).key;
+    for (i = 0; i < units; i += 4) {
+        const v4 more = OR(GT(LOAD(c->key + i), ALL(bar)), GT(LOAD(c->rank + i), ALL(rank)));
+        STORE(c->loss + i, SUB(LOAD(c->loss + i), more));
+    }
+}
+
+/* The same of few, where any are parted: key and rank together are below 2^52, and so one double. */
+static __attribute__((noinline)) void part_few(struct columns *c, unsigned units, uint32_t left, v4 back)
+{
+    double both[KEYS_FEW];
+    const __m128d above_ranks = _mm_set1_pd(1 << 26);
+    v4 places = _mm_set_epi32(60, 61, 62, 63);
+    for (unsigned i = 0; i < units; i += 4) {
+        const v4 key = LOAD(c->key + i), rank = rank_of(c->n1 + i, back, &places);
+        const v4 key_b = _mm_shuffle_epi32(key, 0xEE), rank_b = _mm_shuffle_epi32(rank, 0xEE);
+        _mm_storeu_pd(both + i, _mm_add_pd(_mm_mul_pd(_mm_cvtepi32_pd(key), above_ranks), _mm_cvtepi32_pd(rank)));
+        _mm_storeu_pd(both + i + 2, _mm_add_pd(_mm_mul_pd(_mm_cvtepi32_pd(key_b), above_ranks), _mm_cvtepi32_pd(rank_b)));
+    }
+    for (unsigned i = 0; i < units; i += 4) {
+        const __m128d a = _mm_loadu_pd(both + i), b = _mm_loadu_pd(both + i + 2);
+        v4 spare_a = ALL(left), spare_b = spare_a; /* less those that come before */
+        for (unsigned j = 0; j < units; j++) {
+            const __m128d other = _mm_set1_pd(both[j]);
+            spare_a = ADD(spare_a, _mm_castpd_si128(_mm_cmpgt_pd(other, a)));
+            spare_b = ADD(spare_b, _mm_castpd_si128(_mm_cmpgt_pd(other, b)));
+        }
+        const v4 spare = _mm_castps_si128(_mm_shuffle_ps(_mm_castsi128_ps(spare_a), _mm_castsi128_ps(spare_b), 0x88));
+        STORE(c->loss + i, SUB(LOAD(c->loss + i), GT(spare, ZERO)));
+    }
+}
+
 /* ---- Step 2 ---- */
 
-/* Works out what each unit loses of the excess, but for the odd kWh: those go to the units with a key above the one given back. */
+/* Works out what each unit loses of the excess, but for odd kWh that no tie parts: those go to the units with a key above the one given back. */
 static inline __attribute__((always_inline)) v4 cut(struct columns *c, unsigned units, int32_t excess)
 {
     const v4 back = excess < 0 ? ALL(-1) : ZERO; /* turns withdrawals into sizes */
@@ -225,7 +339,7 @@ static inline __attribute__((always_inline)) v4 cut(struct columns *c, unsigned 
         sharing = ALL(-1);
     }
     const __m128d C = _mm_set1_pd((double)lost), T = _mm_set1_pd((double)(shared ? shared : 1));
-    v4 given = ZERO, order = _mm_set_epi32(60, 61, 62, 63);
+    v4 given = ZERO;
     unsigned i = 0;
     for (; i < units; i += 4) {
         const v4 size = LOAD(c->loss + i), shares = EQ(LOAD(c->class_of + i), sharing), part = AND(size, shares);
@@ -233,17 +347,27 @@ static inline __attribute__((always_inline)) v4 cut(struct columns *c, unsigned 
         const v4 whole_a = _mm_cvttpd_epi32(_mm_div_pd(a, T)), whole_b = _mm_cvttpd_epi32(_mm_div_pd(b, T));
         const v4 rest_a = _mm_cvttpd_epi32(_mm_sub_pd(a, _mm_mul_pd(_mm_cvtepi32_pd(whole_a), T)));
         const v4 rest_b = _mm_cvttpd_epi32(_mm_sub_pd(b, _mm_mul_pd(_mm_cvtepi32_pd(whole_b), T)));
-        const v4 whole = _mm_unpacklo_epi64(whole_a, whole_b), rest = _mm_unpacklo_epi64(rest_a, rest_b);
+        const v4 whole = _mm_unpacklo_epi64(whole_a, whole_b);
         given = ADD(given, whole);
         STORE(c->loss + i, OR(whole, NOTAND(shares, AND(size, sharing))));
-        STORE(c->key + i, XOR(NOTAND(EQ(rest, ZERO), ADD(_mm_slli_epi32(rest, 6), order)), ALL(TOP)));
-        order = SUB(order, ALL(4));
+        STORE(c->key + i, _mm_unpacklo_epi64(rest_a, rest_b));
     }
-    STORE(c->key + i, ALL(TOP)); /* a bisection reads eight at a time */
+    STORE(c->key + i, ZERO); /* a bisection reads eight at a time */
     const uint32_t left = lost - (uint32_t)total(given);
     if (left == 0)
         return ALL(INT32_MAX);
-    return ALL(units <= KEYS_FEW ? counted(c->key, units, left) : bisected(c->key, units, left, shared * 64));
+    if (units <= KEYS_FEW) {
+        const int32_t bar = counted(c->key, units, left);
+        if (bar != 0)
+            return ALL(bar);
+        part_few(c, units, left, back);
+    } else {
+        const struct threshold bar = bisected(c->key, units, left, 0, (int32_t)shared);
+        if (!bar.parts)
+            return ALL(bar.key);
+        part_many(c, units, left, back, bar.key);
+    }
+    return ALL(INT32_MAX);
 }
 
 /* ---- Results ---- */

@@ -162,7 +162,7 @@ static void write_day(const char *kind, long count)
     write_bytes(day, sizeof day);
     for (long i = 0; i < count; i++) {
         const int units = 1 + (int)(i * 37 % FLEHWELLA_UNITS_MAX);
-        const enum which which = mixed ? (enum which)(i % CASES) : one;
+        const enum which which = mixed ? (enum which)((i + i / FLEHWELLA_UNITS_MAX) % CASES) : one; /* from 512 blocks on every case at every size */
         write_bytes(blocks[0], put_block(blocks[0], (int)(i / QUARTERS), (int)(i % QUARTERS), which, units, (uint64_t)i + 1));
     }
     uint8_t end[SECOND_END_LENGTH];

@@ -17,9 +17,10 @@ enum which {
     MNOM,   /* no cut; half of the units are not nominated, and coincide */
     RANDOM, /* anything valid */
     MCUT,   /* a cut; class, direction and what is sold differ from unit to unit */
+    TIED,   /* one class, odd sizes that rise, half of the total sold: from 2 units on remainders are equal, and half of them get an odd kWh */
     CASES
 };
-static const char *const case_names[CASES] = {"nocut", "into1", "worst", "msign", "mnom", "random", "mcut"};
+static const char *const case_names[CASES] = {"nocut", "into1", "worst", "msign", "mnom", "random", "mcut", "tied"};
 
 struct unit {
     int class_of, coincide, nominated;
@@ -99,6 +100,11 @@ static inline struct unit unit_of(enum which which, int i, int units, uint64_t *
         } else {
             u.pc = -below(300, seed) - u.class_of * (size / 2);
         }
+        break;
+    case TIED: /* where units are odd in number the last size is even, so that half of the total is whole */
+        u.class_of = 0;
+        u.n = 1001 + 32 * i + 2 * below(16, seed) + (units % 2 == 1 && i == units - 1);
+        u.pc = -(u.n + i % 2) / 2;
         break;
     default:
         break;

@@ -1,6 +1,7 @@
-/* The ways in of document 01, with requests 2 ("late or early") and 4 ("implicit
- * nominations we missed") of document 02. The parts follow the sections of 01:
- * quantities and signs, the steps, house records, the table of the day, ways in. */
+/* The ways in of document 01, with requests 2 ("late or early"), 4 ("implicit
+ * nominations we missed") and 6 ("the small engine always loses the odd kWh") of
+ * document 02. The parts follow the sections of 01: quantities and signs, the
+ * steps, house records, the table of the day, ways in. */
 #include "second.h"
 
 #include <stdbool.h>
@@ -151,27 +152,30 @@ static band band_of(int32_t p)
 static void cut_class(size_t members, const uint8_t *member, const int32_t *size,
                       int32_t total, int32_t cut, int32_t direction, int32_t *n2)
 {
-    uint32_t keys[SECOND_UNITS_MAX];
+    int32_t remainder[SECOND_UNITS_MAX], rank[SECOND_UNITS_MAX];
     int32_t left = cut;
 
     for (size_t k = 0; k < members; k++) {
         const int64_t product = (int64_t)cut * size[k];
         const int32_t whole = (int32_t)(product / total);
-        const uint32_t remainder = (uint32_t)(product % total);
+        remainder[k] = (int32_t)(product % total);
+        /* Request 6: who comes first among equal remainders. A size is at most
+         * 1,000,000 and so leaves six bits free; in them an earlier unit counts
+         * higher, so that it comes first among equal sizes. */
+        rank[k] = size[k] * SECOND_UNITS_MAX + (SECOND_UNITS_MAX - 1 - (int32_t)k);
         n2[member[k]] -= direction * whole;
         left -= whole;
-        /* A remainder is below 64,000,000 and so leaves six bits free; in them
-         * an earlier unit counts higher, so that it comes first among equals. */
-        keys[k] = remainder << 6 | (uint32_t)(SECOND_UNITS_MAX - 1 - k);
     }
     if (left == 0)
         return;
-    /* One kWh more for each unit that has fewer than `left` keys above its own. */
+    /* One kWh more for each unit that has fewer than `left` units before it; by |
+     * and &, since a branch on these figures would be guessed wrong too often. */
     for (size_t k = 0; k < members; k++) {
-        int32_t above = 0;
+        int32_t before = 0;
         for (size_t j = 0; j < members; j++)
-            above += keys[j] > keys[k];
-        if (above < left)
+            before += (remainder[j] > remainder[k]) |
+                      ((remainder[j] == remainder[k]) & (rank[j] > rank[k]));
+        if (before < left)
             n2[member[k]] -= direction;
     }
 }

@@ -1,5 +1,5 @@
-/* The second program: the ways in of document 01 ("Ways in"), with requests 2
- * and 4 of document 02 in place, written from the documents alone so that the
+/* The second program: the ways in of document 01 ("Ways in"), with requests 2, 4
+ * and 6 of document 02 in place, written from the documents alone so that the
  * proved product can be compared with it in bulk.
  * This header is what a program that links second.o may use. */
 #ifndef SECOND_H

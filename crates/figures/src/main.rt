@@ -13,6 +13,7 @@ fn main() {
     small::full_group();
     small::ranges();
     small::ranges_left();
+    small::ties();
     ages::limits();
     readings::shares_of_all_units();
     readings::sizes_before_step_1();

@@ -1,4 +1,4 @@
-// "Small figures" of document 01, with those of 02, §4.
+// "Small figures" of document 01, with those of 02, §4 and §6.
 ghost use mathlib.Core.Path.{_≡_};
 ghost use mathlib.Core.Bool.{true};
 ghost use Prim.Native.Nat.{_≤_};
@@ -76,4 +76,12 @@ pub fn ranges_left() {
     single(b"M- -1,000,001", 0, 0, -1000001, HIGH);
     single(b"M+ 1,000,001", 0, 0, LOW, 1000001);
     single(b"M+ -1,000,001", 0, 0, LOW, -1000001);
+}
+
+// Equal remainders of unequal sizes.
+pub fn ties() {
+    wide(b"1, 3; P -2", &[1, 3], &[0, 0], -2);
+    wide(b"3, 1; P -2", &[3, 1], &[0, 0], -2);
+    wide(b"-1, -3; P 2", &[-1, -3], &[0, 0], 2);
+    wide(b"1, 3, 5, 7; P -8", &[1, 3, 5, 7], &[0, 0, 0, 0], -8);
 }

@@ -1,7 +1,8 @@
 -- What step 2 takes of each unit: no more than its size in the direction cut, by the laws of `quota` for each standing, and so much nearer to zero it comes.
-use Prim.Native.Nat.{ℕ, _+_, _*_, _≤_, _<_}
-use mathlib.Core.Path.{_≡_, refl, sym, _∙_, ap, ap₂}
+use Prim.Native.Nat.{ℕ, _+_, _*_, _/_, _%_, _≤_, _<_}
+use mathlib.Core.Path.{_≡_, refl, sym, _∙_, ap, ap₂, subst₂}
 use mathlib.Core.Bool.{true, false}
+use mathlib.Core.Logic.{_⊎_}
 use mathlib.Core.List.{List}
 use native.Mathlib.Omega.{arith}
 use native.Mathlib.Decide.{decLt}
@@ -19,8 +20,9 @@ use Rattle.terms.specs.declared.quantity.Standing.{Standing}
 use Rattle.terms.specs.declared.quantity.Standing.the-variants.{NotEnabled, Enabled}
 use Rattle.terms.specs.declared.quantity.Direction.{Direction}
 use Rattle.terms.specs.declared.quantity.Direction.the-variants.{Injections, Withdrawals}
-use Rattle.quota.specs.Quota.{cutsOf, Fair}
+use Rattle.quota.specs.Quota.{whole, rest, cutsOf, Fair}
 use Rattle.quota.proofs.Fairness.{cuts-fair, length-cuts, cuts-within, cuts-total, cuts-all}
+use Rattle.quota.proofs.Larger.{larger-dealt}
 use Rattle.group.specs.Steps.{directionOf, nearerBy}
 use Rattle.group.specs.Group.{sizeOf, sizesOf, shareOf, cutsFor, takenOff, step2All}
 use Rattle.group.specs.Inner.{Classed, lossAt}
@@ -187,3 +189,21 @@ module _ (e : ℤ) (n1 : List ℤ) (class : List ℕ) (bears : Bears e n1 class)
           let s : List ℕ = sizesOf (directionOf e) k n1 class in
           let m : getD s j 0 < getD s i 0 = omega arith in
           omega (arith, f .larger-cut i j m, f .larger-left i j m, loss-of k i hi, loss-of k j hj, step2-nearer i .left, step2-nearer j .left)
+
+      -- of two units the one that loses an odd kWh, where the other does not, has the larger remainder; or as large a one, and it is the larger, or as large and earlier
+      pub larger-first : (i j : ℕ) → standing k (getD class i 0) ≡ true → standing k (getD class j 0) ≡ true
+          → let t = sum (sizesOf (directionOf e) k n1 class) in
+          let c = shareOf e k n1 class in
+          let m = sizeIn (directionOf e) (at n1 i) in
+          let n = sizeIn (directionOf e) (at n1 j) in
+          c * m / t < lossAt e n1 class i → lossAt e n1 class j ≤ c * n / t → (c * n % t < c * m % t) ⊎ ((c * m % t ≡ c * n % t) × ((n < m) ⊎ ((m ≡ n) × (i < j))))
+      unfolding cutsFor whole rest
+      larger-first i j hi hj odd even =
+          let s : List ℕ = sizesOf (directionOf e) k n1 class in
+          let c : ℕ = shareOf e k n1 class in
+          let si = size-here i hi in
+          let sj = size-here j hj in
+          subst₂ (λ (m n : ℕ). (c * n % sum s < c * m % sum s) ⊎ ((c * m % sum s ≡ c * n % sum s) × ((n < m) ⊎ ((m ≡ n) × (i < j))))) si sj
+          (larger-dealt s c (omega (arith, cut-within k i, loss-of k i hi, size-at (directionOf e) k n1 class i, sum-entry s i)) (share-bearable k) i j
+          (subst₂ (λ (m n : ℕ). c * m / sum s < n) (sym si) (loss-of k i hi) odd)
+          (subst₂ (λ (m n : ℕ). n ≤ c * m / sum s) (sym sj) (loss-of k j hj) even))

@@ -15,6 +15,7 @@ pub mod Accepting
 pub mod Replying
 pub mod Margins
 pub mod Demand3
+pub mod Ties
 pub mod Unique
 pub mod Figures
 pub mod Amounts

@@ -1,4 +1,4 @@
--- "Small figures": the starred ones as one table, and the test that a row of it comes out of the steps.
+-- "Small figures": the starred ones, and those of 02, as one table, and the test that a row of it comes out of the steps.
 use Prim.Native.Nat.{ℕ}
 use mathlib.Core.Bool.{Bool, true, false, _&&_}
 use mathlib.Core.List.{List, [], _∷_, map}
@@ -101,6 +101,14 @@ figures =
     ∷ n2s (pos 2999 ∷ pos 2000 ∷ pos 9000 ∷ [])
     ∷ n3s (pos 2999 ∷ pos 2400 ∷ pos 9000 ∷ [])
     ∷ [])
+    -- Of equal remainders, as 02, §6 has it: 1, 3; P -2: 1, 1.
+    ∷ row (plain (pos 1) (neg 2) ∷ plain (pos 3) (pos 0) ∷ []) (leaves (pos 1 ∷ pos 1 ∷ []))
+    -- 3, 1; P -2: 1, 1.
+    ∷ row (plain (pos 3) (neg 2) ∷ plain (pos 1) (pos 0) ∷ []) (leaves (pos 1 ∷ pos 1 ∷ []))
+    -- -1, -3; P 2: -1, -1.
+    ∷ row (plain (neg 1) (pos 2) ∷ plain (neg 3) (pos 0) ∷ []) (leaves (neg 1 ∷ neg 1 ∷ []))
+    -- 1, 3, 5, 7; P -8: 1, 2, 2, 3.
+    ∷ row (plain (pos 1) (neg 8) ∷ plain (pos 3) (pos 0) ∷ plain (pos 5) (pos 0) ∷ plain (pos 7) (pos 0) ∷ []) (leaves (pos 1 ∷ pos 2 ∷ pos 2 ∷ pos 3 ∷ []))
     ∷ []
 
 -- the columns of some units

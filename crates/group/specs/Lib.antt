@@ -4,5 +4,6 @@ pub mod Group
 pub mod Columns
 pub mod Accepted
 pub mod Demand3
+pub mod Ties
 pub mod Inner
 pub mod Figures

@@ -14,8 +14,10 @@ use Rattle.group.specs.Columns.{judgement, sumsOf, Judges, SameOutcome}
 use Rattle.group.specs.declared.judge.Judgement.{Judgement}
 use Rattle.group.specs.Accepted.{Accepted}
 use Rattle.group.specs.Demand3.{Demand3}
+use Rattle.group.specs.Ties.{LargerFirst}
 use Rattle.group.proofs.Unique.{judge-unique}
 use Rattle.group.proofs.Demand3.{group-demand3}
+use Rattle.group.proofs.Ties.{group-larger-first}
 use Rattle.records.specs.declared.day.DayRecord.{DayRecord}
 use Rattle.records.specs.declared.end.EndRecord.{EndRecord}
 use Rattle.records.specs.Layouts.{dayAt, groupAt, endAt, groupResultAt, unitResultAt}
@@ -31,9 +33,9 @@ use Rattle.blocks.specs.Blocks.{groupResult, blockKey, blockCount, blockGroup, 
 use Rattle.day.specs.declared.value.Day.{Day}
 use Rattle.day.specs.declared.offer.Step.{Step}
 use Rattle.day.specs.declared.offer.Offered.the-variants.{Taken, Refused}
-use Rattle.day.specs.Days.{fresh}
+use Rattle.day.specs.Days.{fresh, opened}
 use Rattle.day.specs.Offers.{Offers}
-use Rattle.day.proofs.Demands.{One, offer-answered, refusal-keeps, group-told, unit-told, block-fair}
+use Rattle.day.proofs.Demands.{One, offer-answered, refusal-keeps, block-accepted, group-told, unit-told, block-fair}
 use Rattle.day.proofs.Again.{day-same, block-same, end-same}
 use Rattle.desk.specs.Desk.{Checks}
 use Rattle.desk.specs.Header.{Replied, CallTaken}
@@ -103,9 +105,19 @@ module _ (day : Day) (s room : List ℕ) {step : Step} {exit : List ℕ} (o : Of
   pub block-cut-fairly : roleOf (byteAt s 0) ≡ Block → Demand3 (blockGroup s)
   block-cut-fairly = block-fair day s room o
 
--- So it is of every group of columns that passes the checks, and of every block that the C call accepts.
+  -- ---- The odd kWh go to the largest remainders, among equal ones to the larger units first, then to the earlier.
+  pub block-larger-first : roleOf (byteAt s 0) ≡ Block → LargerFirst (blockGroup s)
+  block-larger-first is-block = group-larger-first (blockGroup s) (block-accepted day s room o is-block)
+
+-- Both hold of every group of columns that passes the checks, and of every block that the C call accepts.
 pub group-cut-fairly : (g : Group) → Accepted g → Demand3 g
 group-cut-fairly = group-demand3
 
 pub call-cut-fairly : (day block room : List ℕ) {n : ℕ} {exit : List ℕ} → CallTaken day block room n exit → Demand3 (blockGroup block)
 call-cut-fairly = call-fair
+
+pub columns-larger-first : (g : Group) → Accepted g → LargerFirst g
+columns-larger-first = group-larger-first
+
+pub call-larger-first : (day block room : List ℕ) {n : ℕ} {exit : List ℕ} → CallTaken day block room n exit → LargerFirst (blockGroup block)
+call-larger-first day block room c = block-larger-first (opened (c .opens)) block room (c .taken) (c .is-block)

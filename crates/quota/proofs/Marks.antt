@@ -1,7 +1,7 @@
--- Marks tell the rule: no whole part is above `top`, a key is larger just where its unit comes first, and so to count the marks above a key is its unit's rank.
+-- Marks tell the rule: no whole part is above `top`, and of units with a remainder those come first by their marks that come first by the rule.
 use Prim.Native.Nat.{ℕ, _+_, _*_, _/_, _≤_, _<_}
-use mathlib.Core.Path.{_≡_, sym, _∙_, ap, ap₂, subst₂}
-use mathlib.Core.Bool.{Bool, true, false, _&&_, _||_}
+use mathlib.Core.Path.{_≡_, refl, sym, _∙_, ap, ap₂, subst₂}
+use mathlib.Core.Bool.{true}
 use mathlib.Core.List.{List}
 use native.Mathlib.Omega.{arith}
 use native.Mathlib.Nat.{mul-le-mul-left, lt-of-mul-lt-mul-right}
@@ -17,9 +17,10 @@ use Rattle.numbers.proofs.Sums.{count-cong, count-all, sumTo-one, sumTo-mono, s
 use Rattle.terms.specs.Quantities.{sizeIn}
 use Rattle.terms.specs.declared.quantity.Direction.{Direction}
 use Rattle.quota.specs.Quota.{whole, rest, ahead, before, rank, still, cutAt, cutsOf}
-use Rattle.quota.specs.Inner.{Asked, Own, Rated, Sharing, top, keyOf, markBy, mark, marksOf, Marked, above, Parts, dealtAt}
+use Rattle.quota.specs.Inner.{Asked, Own, Rated, Sharing, top, tied, markBy, mark, marksOf, Marked, earlierBy, Parts, dealtAt}
 use Rattle.quota.specs.declared.Ratio.{Ratio}
 use Rattle.quota.proofs.Fairness.{length-cuts, cuts-all}
+use Rattle.quota.proofs.Order.{ahead-under}
 use Rattle.quota.proofs.Ratios.{share-le}
 use Rattle.quota.proofs.Shares.{rest-lt, rest-size, still-rests, dealt-rest}
 
@@ -40,30 +41,26 @@ all-cut {s} a e =
     ∙ column-ext _ (λ (i : ℕ). getD s i 0) (length s) (λ i _. cuts-all s i)
     ∙ sym (column-self 0 s)))
 
-mark-key : (w x i : ℕ) → 0 < x → markBy w x i ≡ keyOf x i
+mark-rest : (w x : ℕ) → 0 < x → markBy w x ≡ top + x
 unfolding markBy
-mark-key w x i l = rw (lt-ltb 0 x l)
+mark-rest w x l = rw (lt-ltb 0 x l)
 
-mark-whole : (w x i : ℕ) → x ≡ 0 → markBy w x i ≡ w
+mark-whole : (w x : ℕ) → x ≡ 0 → markBy w x ≡ w
 unfolding markBy
-mark-whole w x i e = rw (le-ltb 0 x (omega arith))
+mark-whole w x e = rw (le-ltb 0 x (omega arith))
 
--- a key is below another just where the other's unit comes before
-key-ahead : (x y i j : ℕ) → i < 64 → j < 64 → ltb (keyOf x i) (keyOf y j) ≡ ahead x y i j
+-- remainders above `top` come in the same order
+ahead-top : (x y m n i j : ℕ) → ahead (top + x) (top + y) m n i j ≡ ahead x y m n i j
 unfolding ahead
-key-ahead x y i j il jl = go (decLt x y) (decLt y x)
+ahead-top x y m n i j = rw (ltb-iff (top + x) (top + y) x y (λ l. omega arith) (λ l. omega arith), eqb-top) refl
   where
-    go : Dec (x < y) → Dec (y < x) → ltb (keyOf x i) (keyOf y j) ≡ ltb x y || (eqb x y && ltb j i)
-    go (yes l) m = rw (lt-ltb x y l) (lt-ltb (keyOf x i) (keyOf y j) (omega arith))
-    go (no l) (yes m) = rw (le-ltb x y (omega arith), ne-eqb x y (λ e. omega arith)) (le-ltb (keyOf x i) (keyOf y j) (omega arith))
-    go (no l) (no m) =
-        rw (le-ltb x y (omega arith), eq-eqb x y (omega arith))
-        (ltb-iff (keyOf x i) (keyOf y j) j i (λ p. omega arith) (λ p. omega arith))
-
--- a unit without a remainder comes before none that has one
-not-ahead : (x y i j : ℕ) → 0 < x → y ≡ 0 → ahead x y i j ≡ false
-unfolding ahead
-not-ahead x y i j p z = rw (le-ltb x y (omega arith), ne-eqb x y (λ e. omega arith))
+    eqb-top : eqb (top + x) (top + y) ≡ eqb x y
+    eqb-top = go (decLt x y) (decLt y x)
+      where
+        go : Dec (x < y) → Dec (y < x) → eqb (top + x) (top + y) ≡ eqb x y
+        go (yes l) _ = rw (ne-eqb x y (λ e. omega arith), ne-eqb (top + x) (top + y) (λ e. omega arith))
+        go (no l) (yes g) = rw (ne-eqb x y (λ e. omega arith), ne-eqb (top + x) (top + y) (λ e. omega arith))
+        go (no l) (no g) = rw (eq-eqb x y (omega arith), eq-eqb (top + x) (top + y) (omega arith))
 
 module _ {s : List ℕ} {r : Ratio} (h : Sharing s r) where
   abbrev c : ℕ
@@ -110,78 +107,89 @@ module _ {s : List ℕ} {r : Ratio} (h : Sharing s r) where
           ))
       go (no l) = absurd (omega (arith, total-pos, sum-bound s 1000000 (h .sized .small)))
 
-  -- every mark lies below what a remainder of T would give
-  marks-below : (k : ℕ) → getD (marksOf s c) k 0 < top + r .t * 64
+  -- no mark is as large as those of units told apart
+  marks-small : (k : ℕ) → getD (marksOf s c) k 0 < tied
   unfolding marksOf
-  marks-below k = go (decLt k (length s)) (decLt 0 (rest s c k))
+  marks-small k = go (decLt k (length s)) (decLt 0 (rest s c k))
     where
-      go : Dec (k < length s) → Dec (0 < rest s c k) → getD (marksOf s c) k 0 < top + r .t * 64
+      go : Dec (k < length s) → Dec (0 < rest s c k) → getD (marksOf s c) k 0 < tied
       go (no l) _ = omega (arith, column-past (mark s c) (length s) k 0 (omega arith))
-      go (yes l) (yes p) = omega (arith, mark-at k l, mark-key (whole s c k) (rest s c k) k p, rest-lt s c total-pos k, h .total)
-      go (yes l) (no p) = omega (arith, mark-at k l, mark-whole (whole s c k) (rest s c k) k (omega arith), whole-small k)
+      go (yes l) (yes p) = omega (arith, mark-at k l, mark-rest (whole s c k) (rest s c k) p, rest-lt s c total-pos k, h .total, h .rated .few)
+      go (yes l) (no p) = omega (arith, mark-at k l, mark-whole (whole s c k) (rest s c k) (omega arith), whole-small k)
 
-  pub marked : {m : List ℕ} {left t : ℕ} → m ≡ marksOf s c → left ≡ still s c → r .t ≡ t → Marked m left t
-  marked m-is left-is t-is =
-      rw (m-is, left-is, ← t-is)
+  pub marked : {m : List ℕ} {left : ℕ} → m ≡ marksOf s c → left ≡ still s c → 0 < left → Marked m left
+  marked m-is left-is some =
+      rw (m-is, left-is)
       (record {
         few = omega (arith, marks-length, h .sized .few);
+        some = omega arith;
         fewer = omega (arith, marks-length, still-fewer);
-        small = h .rated .few;
-        below = marks-below;
+        small = marks-small;
       })
 
-  module _ (i : ℕ) (l : i < length s) (p : 0 < rest s c i) where
-    is-key : mark s c i ≡ keyOf (rest s c i) i
-    is-key = mark-key (whole s c i) (rest s c i) i p
+  pub places : {d : Direction} {n1 : List ℤ} {m : List ℕ} → Own d n1 s → m ≡ marksOf s c → length m ≡ length n1
+  places own m-is = ap length m-is ∙ marks-length ∙ sym (own .places)
 
-    key-top : top < mark s c i
-    key-top = omega (arith, is-key)
+  module _ {d : Direction} {n1 : List ℤ} (own : Own d n1 s) where
+    size-is : (i : ℕ) → 0 < rest s c i → sizeIn d (at n1 i) ≡ getD s i 0
+    size-is i p = own .own i (rest-size s c i p)
 
-    rank-is : above (marksOf s c) (mark s c i) ≡ rank (before s c) (length s) i
-    unfolding above rank before
-    rank-is =
-        ap (λ (n : ℕ). count n (λ (j : ℕ). ltb (mark s c i) (getD (marksOf s c) j 0))) marks-length
-        ∙ count-cong (length s) (λ (j : ℕ). ltb (mark s c i) (getD (marksOf s c) j 0)) (λ (j : ℕ). before s c j i)
-        (λ j m. ap₂ (λ (x y : ℕ). ltb x y) is-key (mark-at j m) ∙ go j m (decLt 0 (rest s c j)))
+    -- so many units come before a unit with a remainder by the marks as by the rule
+    place-is : (i : ℕ) → i < length s → 0 < rest s c i → rank (earlierBy (marksOf s c) d n1) (length (marksOf s c)) i ≡ rank (before s c) (length s) i
+    unfolding rank earlierBy before
+    place-is i l p =
+        ap (λ (n : ℕ). count n (λ (j : ℕ). earlierBy (marksOf s c) d n1 j i)) marks-length
+        ∙ count-cong (length s) (λ (j : ℕ). earlierBy (marksOf s c) d n1 j i) (λ (j : ℕ). before s c j i)
+        (λ j m. ap₂ (λ (x y : ℕ). ahead x y (size i) (size j) i j) (mark-at i l ∙ mark-rest (whole s c i) (rest s c i) p) (mark-at j m) ∙ go j (decLt 0 (rest s c j)))
       where
-        go : (j : ℕ) → j < length s → Dec (0 < rest s c j) → ltb (keyOf (rest s c i) i) (mark s c j) ≡ ahead (rest s c i) (rest s c j) i j
-        go j m (yes q) =
-            ap (λ (y : ℕ). ltb (keyOf (rest s c i) i) y) (mark-key (whole s c j) (rest s c j) j q)
-            ∙ key-ahead (rest s c i) (rest s c j) i j (omega (arith, h .sized .few)) (omega (arith, h .sized .few))
-        go j m (no q) =
-            let z : rest s c j ≡ 0 = omega arith in
-            le-ltb (keyOf (rest s c i) i) (mark s c j) (omega (arith, mark-whole (whole s c j) (rest s c j) j z, whole-small j))
-            ∙ sym (not-ahead (rest s c i) (rest s c j) i j p z)
+        size : ℕ → ℕ
+        size j = sizeIn d (at n1 j)
 
-  -- of a unit with a remainder n1 tells the whole part again
-  again : {d : Direction} {n1 : List ℤ} → Own d n1 s → (i : ℕ) → 0 < rest s c i → c * sizeIn d (at n1 i) / r .t ≡ whole s c i
-  unfolding whole
-  again own i p = ap₂ (λ (y z : ℕ). c * y / z) (own .own i (rest-size s c i p)) (h .total)
+        go : (j : ℕ) → Dec (0 < rest s c j) → ahead (top + rest s c i) (mark s c j) (size i) (size j) i j ≡ ahead (rest s c i) (rest s c j) (getD s i 0) (getD s j 0) i j
+        go j (yes q) =
+            rw (mark-rest (whole s c j) (rest s c j) q, size-is i p, size-is j q) (ahead-top (rest s c i) (rest s c j) (getD s i 0) (getD s j 0) i j)
+        go j (no q) =
+            ahead-under (top + rest s c i) (mark s c j) (size i) (size j) i j (omega (arith, mark-whole (whole s c j) (rest s c j) (omega arith), whole-small j))
+            ∙ sym (ahead-under (rest s c i) (rest s c j) (getD s i 0) (getD s j 0) i j (omega arith))
 
-  -- what is dealt where x parts the keys is the rule's cut
-  dealt-cut : {d : Direction} {n1 : List ℤ} (x : ℕ) → Own d n1 s → Parts (marksOf s c) (still s c) x → (i : ℕ) → i < length s
-      → dealtAt d (r .t) c x (at n1 i) (getD (marksOf s c) i 0) ≡ cutAt s c i
-  unfolding dealtAt cutAt
-  dealt-cut {d} {n1} x own parts i l = rw (mark-at i l) (go (decLt 0 (rest s c i)))
-    where
-      place : ℕ
-      place = rank (before s c) (length s) i
+    -- of a unit with a remainder n1 tells the whole part again
+    again : (i : ℕ) → 0 < rest s c i → c * sizeIn d (at n1 i) / r .t ≡ whole s c i
+    unfolding whole
+    again i p = ap₂ (λ (y z : ℕ). c * y / z) (size-is i p) (h .total)
 
-      go : Dec (0 < rest s c i) → dealtAt d (r .t) c x (at n1 i) (mark s c i) ≡ whole s c i + bit (ltb place (still s c))
-      go (yes p) =
-          rw (lt-ltb top (mark s c i) (key-top i l p), again own i p)
-          (ap (λ (b : Bool). whole s c i + bit b)
-          (ap (λ (y : ℕ). ltb x y) (sym (mark-at i l))
-          ∙ parts i (omega (arith, marks-length)) (omega (arith, mark-at i l, key-top i l p))
-          ∙ ap (λ (y : ℕ). ltb (above (marksOf s c) y) (still s c)) (mark-at i l)
-          ∙ ap (λ (n : ℕ). ltb n (still s c)) (rank-is i l p)))
-      go (no p) =
-          let e : mark s c i ≡ whole s c i = mark-whole (whole s c i) (rest s c i) i (omega arith) in
-          rw (le-ltb top (mark s c i) (omega (arith, e, whole-small i))) (omega (arith, e, ap bit (le-ltb place (still s c) (late (decLt place (still s c))))))
-        where
-          late : Dec (place < still s c) → still s c ≤ place
-          late (yes q) = absurd (p (dealt-rest s c total-pos cut-within i q))
-          late (no q) = omega arith
+    -- what is dealt where x parts the marks is the rule's cut
+    dealt-cut : {m : List ℕ} {x : ℕ} → Parts (marksOf s c) (still s c) d n1 m x → (i : ℕ) → i < length s
+        → dealtAt d (r .t) c x (at n1 i) (getD m i 0) ≡ cutAt s c i
+    unfolding dealtAt cutAt
+    dealt-cut {m} {x} parts i l = go (decLt 0 (rest s c i))
+      where
+        place : ℕ
+        place = rank (before s c) (length s) i
+
+        l′ : i < length (marksOf s c)
+        l′ = omega (arith, marks-length)
+
+        go : Dec (0 < rest s c i) → dealtAt d (r .t) c x (at n1 i) (getD m i 0) ≡ whole s c i + bit (ltb place (still s c))
+        go (yes p) =
+            let over : top < getD (marksOf s c) i 0 = omega (arith, mark-at i l, mark-rest (whole s c i) (rest s c i) p) in
+            rw (lt-ltb top (getD m i 0) (parts .marks i l′ over), again i p, parts .parts i l′ over, place-is i l p) refl
+        go (no p) =
+            let e : getD (marksOf s c) i 0 ≡ whole s c i = mark-at i l ∙ mark-whole (whole s c i) (rest s c i) (omega arith) in
+            let f : getD m i 0 ≡ whole s c i = parts .wholes i l′ (omega (arith, whole-small i)) ∙ e in
+            rw (le-ltb top (getD m i 0) (omega (arith, whole-small i))) (omega (arith, ap bit (le-ltb place (still s c) (late (decLt place (still s c))))))
+          where
+            late : Dec (place < still s c) → still s c ≤ place
+            late (yes q) = absurd (p (dealt-rest s c total-pos cut-within i q))
+            late (no q) = omega arith
+
+    -- and so are all that are dealt
+    pub all-dealt : {l m : List ℕ} {left : ℕ} (x : ℕ) → l ≡ marksOf s c → left ≡ still s c → Parts l left d n1 m x
+        → column (length m) (λ (i : ℕ). dealtAt d (r .t) c x (at n1 i) (getD m i 0)) ≡ cutsOf s c
+    unfolding cutsOf
+    all-dealt {l} {m} x l-is left-is parts =
+        let q : Parts (marksOf s c) (still s c) d n1 m x = subst₂ (λ (k : List ℕ) (n : ℕ). Parts k n d n1 m x) l-is left-is parts in
+        ap (λ (n : ℕ). column n (λ (i : ℕ). dealtAt d (r .t) c x (at n1 i) (getD m i 0))) (q .places ∙ marks-length)
+        ∙ column-ext _ (cutAt s c) (length s) (dealt-cut q)
 
   -- with nothing still to cut no unit has a remainder, and the marks are the cuts
   pub none-left : still s c ≡ 0 → marksOf s c ≡ cutsOf s c
@@ -190,7 +198,7 @@ module _ {s : List ℕ} {r : Ratio} (h : Sharing s r) where
       column-ext (mark s c) (cutAt s c) (length s)
       (λ i l. omega (
         arith,
-        mark-whole (whole s c i) (rest s c i) i (no-rest i l),
+        mark-whole (whole s c i) (rest s c i) (no-rest i l),
         ap bit (le-ltb (rank (before s c) (length s) i) (still s c) (omega arith)),
       ))
     where
@@ -203,12 +211,3 @@ module _ {s : List ℕ} {r : Ratio} (h : Sharing s r) where
             still-rests s c total-pos cut-within,
             ap (λ (x : ℕ). x * sum s) z,
           )
-
-  -- and with some, what is dealt of all marks are the cuts
-  pub all-dealt : {d : Direction} {n1 : List ℤ} {m : List ℕ} {left : ℕ} (x : ℕ) → Own d n1 s → m ≡ marksOf s c → left ≡ still s c → Parts m left x
-      → column (length m) (λ (i : ℕ). dealtAt d (r .t) c x (at n1 i) (getD m i 0)) ≡ cutsOf s c
-  unfolding cutsOf
-  all-dealt {d} {n1} x own m-is left-is parts =
-      rw (m-is, marks-length)
-      (column-ext _ (cutAt s c) (length s)
-      (dealt-cut x own (subst₂ (λ (l : List ℕ) (n : ℕ). Parts l n x) m-is left-is parts)))

@@ -45,10 +45,10 @@ module _ {s sizes : List ℕ} {r : Ratio} {left i : ℕ} (a : Sharing s r) (h : 
       whole-left =
           omega (arith, h .taken, w-whole, sumTo-one i (whole s c), sumTo-mono (i + 1) (length s) (whole s c) (omega arith), wholes-le s c (total-pos a) (cut-within a))
 
-      pub marking-turn : Marking s c (set sizes i (markBy w x i)) (left - w) (i + 1)
+      pub marking-turn : Marking s c (set sizes i (markBy w x)) (left - w) (i + 1)
       marking-turn =
           record {
-            places = filled-turn (h .places) refl 0 (ap₂ (λ (y z : ℕ). markBy y z i) w-whole x-rest) l;
+            places = filled-turn (h .places) refl 0 (ap₂ markBy w-whole x-rest) l;
             taken = omega (arith, h .taken, whole-left, w-whole, sumTo-one i (whole s c));
           }
 

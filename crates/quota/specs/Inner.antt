@@ -1,6 +1,7 @@
 -- What inner functions ask of each other: no promise rests on it.
 use Prim.Native.Nat.{ℕ, _+_, _-_, _*_, _/_, _≤_, _<_}
 use mathlib.Core.Path.{_≡_}
+use mathlib.Core.Bool.{Bool}
 use mathlib.Core.Logic.{_⊎_}
 use mathlib.Core.List.{List}
 use lib.Dec.{ltb}
@@ -11,7 +12,7 @@ use Rattle.numbers.specs.Column.{column, at}
 use Rattle.numbers.specs.Sum.{sum, bit, count}
 use Rattle.terms.specs.Quantities.{sizeIn}
 use Rattle.terms.specs.declared.quantity.Direction.{Direction}
-use Rattle.quota.specs.Quota.{whole, rest}
+use Rattle.quota.specs.Quota.{whole, rest, ahead, rank}
 use Rattle.quota.specs.declared.Ratio.{Ratio}
 
 -- the sizes of a group: at most 64, none above 1,000,000
@@ -46,51 +47,81 @@ pub record Sharing (s : List ℕ) (r : Ratio) : Type 0 where
   pub total : r .t ≡ sum s
   pub rated : Rated r
 
--- no whole part is above it, and every key is
+-- no whole part is above top, and every mark of a remainder is; marks of units that are told apart by size and place lie above tied, and below won
 abbrev pub top : ℕ
 top = 1048576
 
--- the remainder x of unit i and its place, which is below 64, in one number: larger where the unit comes first
-abbrev pub keyOf : ℕ → ℕ → ℕ
-keyOf x i = top + x * 64 + (63 - i)
+abbrev pub tied : ℕ
+tied = 1073741824
 
--- what stands for unit i, of this whole part and remainder: the whole part where there is no remainder, else its key
-unfoldable pub markBy : ℕ → ℕ → ℕ → ℕ
-markBy w x i = pick (ltb 0 x) (keyOf x i) w
+abbrev pub won : ℕ
+won = 2147483648
+
+-- what stands for a unit of this whole part and remainder: the whole part where there is no remainder, else the remainder, above top
+unfoldable pub markBy : ℕ → ℕ → ℕ
+markBy w x = pick (ltb 0 x) (top + x) w
 
 abbrev pub mark : List ℕ → ℕ → ℕ → ℕ
-mark s c i = markBy (whole s c i) (rest s c i) i
+mark s c i = markBy (whole s c i) (rest s c i)
 
 unfoldable pub marksOf : List ℕ → ℕ → List ℕ
 marksOf s c = column (length s) (mark s c)
 
--- at most 64 marks of a total t, more than kWh are left, and none so large as a remainder of t would give
-pub record Marked (l : List ℕ) (left t : ℕ) : Type 0 where
+-- at most 64 marks, none of them told apart yet, and more than the kWh that are left, of which there are some
+pub record Marked (l : List ℕ) (left : ℕ) : Type 0 where
   pub few : length l ≤ 64
+  pub some : 0 < left
   pub fewer : left < length l
-  pub small : t ≤ 64000000
-  pub below : (k : ℕ) → getD l k 0 < top + t * 64
+  pub small : (k : ℕ) → getD l k 0 < tied
+
+-- unit j comes before unit i by their marks, and of one mark by size and place
+unfoldable pub earlierBy : List ℕ → Direction → List ℤ → ℕ → ℕ → Bool
+earlierBy l d n1 j i = ahead (getD l i 0) (getD l j 0) (sizeIn d (at n1 i)) (sizeIn d (at n1 j)) i j
 
 -- how many entries are above x
 unfoldable pub above : List ℕ → ℕ → ℕ
 above l x = count (length l) (λ (j : ℕ). ltb x (getD l j 0))
 
--- of the marks l the keys up to low have at least as many above them as kWh are left, and those from high on fewer
+-- fewer marks are above high than kWh are left; where both ends are one number, just so many
 pub record Spans (l : List ℕ) (left low high : ℕ) : Type 0 where
   pub order : low ≤ high
-  pub lows : (k : ℕ) → k < length l → top < getD l k 0 → getD l k 0 ≤ low → left ≤ above l (getD l k 0)
-  pub highs : (k : ℕ) → k < length l → high ≤ getD l k 0 → above l (getD l k 0) < left
+  pub highs : low < high → above l high < left
+  pub met : low ≡ high → above l low ≡ left
 
--- a span made no wider, in which x does not lie
+-- a span made no wider, in which x does not lie; its lower end has moved only to where at least as many marks are above it as kWh are left
 pub record Narrowed (l : List ℕ) (left low high x low′ high′ : ℕ) : Type 0 where
   pub spans : Spans l left low′ high′
   pub lower : low ≤ low′
   pub higher : high′ ≤ high
+  pub lows : (low′ ≡ low) ⊎ (left ≤ above l low′)
   pub decided : (x ≤ low′) ⊎ (high′ ≤ x)
 
--- a number above which are just the keys with fewer above them than kWh are left
-abbrev pub Parts : List ℕ → ℕ → ℕ → Type 0
-Parts l left x = (k : ℕ) → k < length l → top < getD l k 0 → ltb x (getD l k 0) ≡ ltb (above l (getD l k 0)) left
+-- a span in which no mark lies, unless both ends are one number; its lower end is where it began, or at least as many marks are above it as kWh are left
+pub record Parted (l : List ℕ) (left low low′ high′ : ℕ) : Type 0 where
+  pub spans : Spans l left low′ high′
+  pub lower : low ≤ low′
+  pub lows : (low′ ≡ low) ⊎ (left ≤ above l low′)
+  pub decided : low′ < high′ → (k : ℕ) → k < length l → (getD l k 0 ≤ low′) ⊎ (high′ ≤ getD l k 0)
+
+-- of the units that share a mark not all may be dealt a kWh: fewer marks are above it than kWh are left, and at least so many above every mark below it
+pub record Tie (l : List ℕ) (left shared : ℕ) : Type 0 where
+  pub marks : top < shared
+  pub over : above l shared < left
+  pub under : (k : ℕ) → k < length l → top < getD l k 0 → getD l k 0 < shared → left ≤ above l (getD l k 0)
+
+-- the mark m of unit i, of n kWh, where the units are told apart that share a mark: one below it stays, one above it has won, and the shared one gives way to size and place; i is below 64
+unfoldable pub remarkBy : ℕ → ℕ → ℕ → ℕ → ℕ
+remarkBy shared m n i = pick (ltb m shared) m (pick (ltb shared m) won (tied + n * 64 + (64 - i)))
+
+unfoldable pub remarksOf : ℕ → Direction → List ℤ → List ℕ → List ℕ
+remarksOf shared d n1 l = column (length l) (λ (i : ℕ). remarkBy shared (getD l i 0) (sizeIn d (at n1 i)) i)
+
+-- marks m in place of the marks l: whole parts stand as they were, marks of remainders lie above top, and of them those of units that have fewer before them than kWh are left above x
+pub record Parts (l : List ℕ) (left : ℕ) (d : Direction) (n1 : List ℤ) (m : List ℕ) (x : ℕ) : Type 0 where
+  pub places : length m ≡ length l
+  pub wholes : (k : ℕ) → k < length l → getD l k 0 ≤ top → getD m k 0 ≡ getD l k 0
+  pub marks : (k : ℕ) → k < length l → top < getD l k 0 → top < getD m k 0
+  pub parts : (k : ℕ) → k < length l → top < getD l k 0 → ltb x (getD m k 0) ≡ ltb (rank (earlierBy l d n1) (length l) k) left
 
 -- what a unit of n kWh in the direction loses whose mark is m: its mark where that is a whole part, else its whole part again and one kWh more where the mark is above x
 unfoldable pub dealtAt : Direction → ℕ → ℕ → ℕ → ℤ → ℕ → ℕ

@@ -16,12 +16,16 @@ whole s c i = c * getD s i 0 / sum s
 unfoldable pub rest : List ℕ → ℕ → ℕ → ℕ
 rest s c i = c * getD s i 0 % sum s
 
--- unit j, of remainder y, comes before unit i, of remainder x: y is larger, or equal and j is earlier in the group
-unfoldable pub ahead : ℕ → ℕ → ℕ → ℕ → Bool
-ahead x y i j = ltb x y || (eqb x y && ltb j i)
+-- of two units of one remainder, unit j, of size n, comes before unit i, of size m: it is larger, or as large and earlier in the group
+unfoldable pub largerFirst : ℕ → ℕ → ℕ → ℕ → Bool
+largerFirst m n i j = ltb m n || (eqb m n && ltb j i)
+
+-- unit j, of remainder y and size n, comes before unit i, of remainder x and size m: y is larger, or equal and j comes first by size and place
+unfoldable pub ahead : ℕ → ℕ → ℕ → ℕ → ℕ → ℕ → Bool
+ahead x y m n i j = ltb x y || (eqb x y && largerFirst m n i j)
 
 unfoldable pub before : List ℕ → ℕ → ℕ → ℕ → Bool
-before s c j i = ahead (rest s c i) (rest s c j) i j
+before s c j i = ahead (rest s c i) (rest s c j) (getD s i 0) (getD s j 0) i j
 
 -- how many of n units come before unit i
 unfoldable pub rank : (ℕ → ℕ → Bool) → ℕ → ℕ → ℕ

@@ -5,7 +5,7 @@ ghost use lib.ListN.{length, getD};
 ghost use Rattle.numbers.specs.Column.{column, at, AllWithin};
 ghost use Rattle.numbers.specs.Range.{Within};
 ghost use Rattle.quota.specs.Quota.{still, cutsOf};
-ghost use Rattle.quota.specs.Inner.{Asked, Own, Rated, Sharing, top, Marked, markBy, marksOf, above, Spans, Narrowed, Parts, dealtAt};
+ghost use Rattle.quota.specs.Inner.{Asked, Own, Rated, Sharing, Marked, markBy, marksOf, above, Spans, Narrowed, Parted, Tie, remarkBy, remarksOf, Parts, dealtAt};
 use terms::quantity::Direction;
 
 // C kWh of T, which is more, and what each kWh bears of them: C / T in parts of which a kWh has ONE, 2³², rounded down.
@@ -52,16 +52,21 @@ fn share_of(ratio: Ratio, n: u32) -> Share
     }
 }
 
-// No whole part is above it, and every key is: a remainder and a place in one number, the larger of which comes first.
+// No whole part is above it, and every mark of a remainder is, up to TIED.
 const TOP: u32 = 1048576;
 
-// What stands for a unit of this share and place: its key where it has a remainder, else its whole part.
-fn mark_of(share: Share, i: usize) -> u32
-    requires { ⌜ (share .rest ≤ 64000000) × (i < 64) ⌝ }
-    ensures { λ r. ⌜ r ≡ markBy (share .whole) (share .rest) i ⌝ }
+// Marks of units that are told apart by size and place lie above it, up to WON, the mark of units that come before them.
+const TIED: u32 = 1073741824;
+
+const WON: u32 = 2147483648;
+
+// What stands for a unit of this share: its remainder, above TOP, where it has one, else its whole part.
+fn mark_of(share: Share) -> u32
+    requires { ⌜ share .rest ≤ 64000000 ⌝ }
+    ensures { λ r. ⌜ r ≡ markBy (share .whole) (share .rest) ⌝ }
 {
     if 0 < share.rest {
-        return TOP + share.rest * 64 + (63 - i as u32);
+        return TOP + share.rest;
     }
     share.whole
 }
@@ -76,7 +81,7 @@ fn marks_into(sizes: &mut [u32], ratio: Ratio) -> u32
     while i < sizes.len() {
         let share = share_of(ratio, sizes[i]);
         left -= share.whole;
-        sizes[i] = mark_of(share, i);
+        sizes[i] = mark_of(share);
         i += 1;
     }
     left
@@ -96,13 +101,13 @@ fn above(marks: &[u32], x: u32) -> u32
     r
 }
 
-// Keys up to low are not dealt a kWh, keys from high on are; those between are open.
+// Marks up to low are not dealt a kWh, and marks above high are; where the two are one number, just so many are above it as kWh are left.
 struct Span {
     low: u32,
     high: u32,
 }
 
-// The span in which x is not left open.
+// The span without x inside it: what lies above x is counted, and an end moves there, or both.
 fn narrowed(marks: &[u32], left: u32, span: Span, x: u32) -> Span
     requires { ⌜ (length (now marks) ≤ 64) × Spans (now marks) left (span .low) (span .high) ⌝ }
     ensures { λ r. ⌜ Narrowed (now (marks .entry)) left (span .low) (span .high) x (r .low) (r .high) ⌝ }
@@ -114,49 +119,92 @@ fn narrowed(marks: &[u32], left: u32, span: Span, x: u32) -> Span
         return span;
     }
     let a = above(marks, x);
-    if a == left {
-        return Span {
-            low: x,
-            high: x + 1,
-        };
-    }
     if a < left {
         return Span {
             low: span.low,
             high: x,
         };
     }
-    Span {
-        low: x,
-        high: span.high,
+    if left < a {
+        return Span {
+            low: x,
+            high: span.high,
+        };
     }
+    Span { low: x, high: x }
 }
 
-// The first numbers tried: the middle, and the mark that is the right one where all units have one remainder.
-fn guessed(marks: &[u32], left: u32, t: u32) -> Span
-    requires { ⌜ Marked (now marks) left t ⌝ }
-    ensures { λ r. ⌜ Spans (now (marks .entry)) left (r .low) (r .high) × (r .high ≤ top + t * 64) ⌝ }
+// The span without a mark inside it: each that lies there is tried, until both ends are one number.
+fn parted(marks: &[u32], left: u32, wide: Span) -> Span
+    requires { ⌜ (length (now marks) ≤ 64) × Spans (now marks) left (wide .low) (wide .high) ⌝ }
+    ensures { λ r. ⌜ Parted (now (marks .entry)) left (wide .low) (r .low) (r .high) ⌝ }
 {
-    let open = Span {
-        low: TOP,
-        high: TOP + t * 64,
-    };
-    let span = narrowed(marks, left, open, TOP + t * 32);
-    narrowed(marks, left, span, marks[left as usize])
-}
-
-// A number above which are just the keys that are dealt a kWh: each mark that is still open is tried.
-fn bound(marks: &[u32], left: u32, t: u32) -> u32
-    requires { ⌜ Marked (now marks) left t ⌝ }
-    ensures { λ r. ⌜ Parts (now (marks .entry)) left r ⌝ }
-{
-    let mut span = guessed(marks, left, t);
+    let mut span = wide;
     let mut j = 0;
-    while j < marks.len() && span.low + 1 < span.high {
+    while j < marks.len() && span.low < span.high {
         span = narrowed(marks, left, span, marks[j]);
         j += 1;
     }
-    span.low
+    span
+}
+
+// The mark of unit i, of size n, where the units are told apart that share a mark: a mark below it stays, and one above it has won.
+fn remark(shared: u32, mark: u32, n: u32, i: usize) -> u32
+    requires { ⌜ (n ≤ 1000000) × (i < 64) ⌝ }
+    ensures { λ r. ⌜ r ≡ remarkBy shared mark n i ⌝ }
+{
+    if mark < shared {
+        return mark;
+    }
+    if shared < mark {
+        return WON;
+    }
+    TIED + n * 64 + (64 - i as u32)
+}
+
+// Each mark gives way to one that tells the units apart which share a mark.
+fn remark_all(marks: &mut [u32], shared: u32, d: Direction, n1: &[i32])
+    requires { ⌜ (length (now marks) ≤ 64) × AllWithin 1000000 (now n1) × (length (now marks) ≡ length (now n1)) ⌝ }
+    ensures { λ _. ⌜ now (marks .exit) ≡ remarksOf shared d (now (n1 .entry)) (now (marks .entry)) ⌝ }
+{
+    let mut i = 0;
+    while i < n1.len() {
+        marks[i] = remark(shared, marks[i], d.size(n1[i]), i);
+        i += 1;
+    }
+}
+
+// The number of `bound`, where units that share a mark have to be told apart. Two marks are tried first, which are right at once where all units share the mark and their sizes rise from unit to unit, or fall or are equal.
+fn untied(marks: &mut [u32], left: u32, shared: u32, d: Direction, n1: &[i32]) -> u32
+    requires { ⌜ Marked (now marks) left × Tie (now marks) left shared × AllWithin 1000000 (now n1) × (length (now marks) ≡ length (now n1)) ⌝ }
+    ensures { λ r. ⌜ Parts (now (marks .entry)) left d (now (n1 .entry)) (now (marks .exit)) r ⌝ }
+{
+    remark_all(marks, shared, d, n1);
+    let wide = Span {
+        low: TIED,
+        high: WON,
+    };
+    let tried = narrowed(marks, left, wide, marks[marks.len() - 1 - left as usize]);
+    let next = narrowed(marks, left, tried, marks[left as usize]);
+    parted(marks, left, next).low
+}
+
+// A number above which are just the marks of the units that are dealt a kWh. First the middle is tried, and the mark that is right at once where remainders fall from unit to unit. Where no mark lies between the ends, and they are two, the upper one is a mark that more units share than there are kWh for.
+fn bound(marks: &mut [u32], left: u32, t: u32, d: Direction, n1: &[i32]) -> u32
+    requires { ⌜ Marked (now marks) left × (t ≤ 64000000) × AllWithin 1000000 (now n1) × (length (now marks) ≡ length (now n1)) ⌝ }
+    ensures { λ r. ⌜ Parts (now (marks .entry)) left d (now (n1 .entry)) (now (marks .exit)) r ⌝ }
+{
+    let wide = Span {
+        low: TOP,
+        high: TIED,
+    };
+    let tried = narrowed(marks, left, wide, TOP + t / 2);
+    let next = narrowed(marks, left, tried, marks[left as usize]);
+    let span = parted(marks, left, next);
+    if span.low == span.high {
+        return span.low;
+    }
+    untied(marks, left, span.high, d, n1)
 }
 
 // What a unit loses: its mark where that is a whole part, else its whole part, worked out again, and a kWh more where the mark is above x. The share comes before the test, so that the loop has no branch.
@@ -171,7 +219,7 @@ fn dealt_to(ratio: Ratio, d: Direction, x: u32, n1: i32, mark: u32) -> u32
     share.whole + (x < mark) as u32
 }
 
-// Each mark gives way to its unit's cut; n1 tells the size that a key stands for.
+// Each mark gives way to its unit's cut; n1 tells the size that a mark stands for.
 fn deal(ratio: Ratio, d: Direction, x: u32, n1: &[i32], cuts: &mut [u32])
     requires { ⌜ Rated ratio × AllWithin 1000000 (now n1) × (length (now cuts) ≡ length (now n1)) ⌝ }
     ensures { λ _. ⌜ now (cuts .exit) ≡ column (length (now (cuts .entry))) (λ (i : ℕ). dealtAt d (ratio .t) (ratio .c) x (at (now (n1 .entry)) i) (getD (now (cuts .entry)) i 0)) ⌝ }
@@ -196,6 +244,6 @@ pub fn cut(sizes: &mut [u32], t: u32, c: u32, d: Direction, n1: &[i32])
     if left == 0 {
         return;
     }
-    let x = bound(sizes, left, t);
+    let x = bound(sizes, left, t, d, n1);
     deal(ratio, d, x, n1, sizes);
 }

@@ -1,78 +1,66 @@
--- `bound` meets its contract: after j turns `Decided` holds of j marks.
-use Prim.Native.Nat.{_+_, _-_, _*_}
-use mathlib.Core.Logic.{inl, inr}
+-- `bound` meets its contract: both ends of the span are one number, or the upper one is the mark that units to tell apart share.
 use native.Mathlib.Omega.{arith}
 use borrow.Author.Needs.{needs}
-use borrow.Author.Tests.{ltb-false}
-use lib.ListN.{length}
-use Rattle.quota.specs.Inner.{top}
-use Rattle.quota.proofs.Spans.{Decided, decided-none, decided-more, decided-end}
+use denote.Ref.{now}
+use Rattle.quota.proofs.Spans.{tried-parted}
+use Rattle.quota.proofs.Ties.{marks-first, just-parts, tie-of}
 use Rattle.quota.proofs.bound.Statement.{statement}
 use Rattle.quota.proofs.bound.Tie as tie
 
-abbrev Inv-loop : tie.InvT-loop
-Inv-loop marks left t span₀ j₀ span j = Decided marks left (top + t * 64) (span .low) (span .high) j
+add-narrowed : tie.Need-add-narrowed
+add-narrowed c = search needs
 
-abbrev μ-loop : tie.MeasureT-loop
-μ-loop marks left t span₀ j₀ span j = length marks - j
+narrowed-requires : tie.Need-narrowed-requires
+narrowed-requires c κs =
+    let start = c .before .before in
+    (start .pre .0 .few, marks-first (start .pre .0))
 
--- what stood before the loop
-abbrev start-of : tie.At-loop Inv-loop μ-loop → tie.Start Inv-loop μ-loop
-start-of l = l .before .before .before
-
-guessed-requires : tie.Need-guessed-requires Inv-loop μ-loop
-guessed-requires c κs = search needs
-
-loop-holds : tie.Need-loop-holds Inv-loop μ-loop
-loop-holds c = decided-none (c .guessed .ensures .0) (c .guessed .ensures .1)
-
-add-if1 : tie.Need-add-if1 Inv-loop μ-loop
-add-if1 c =
-    let l = c .before .before .loop in
-    omega (arith, l .inv .spans .order, l .inv .inside, start-of (c .before .before) .pre .small)
-
-mul-narrowed : tie.Need-mul-narrowed Inv-loop μ-loop
+mul-narrowed : tie.Need-mul-narrowed
 mul-narrowed c = search needs
 
-shared-slice-read-narrowed : tie.Need-shared-slice-read-narrowed Inv-loop μ-loop
-shared-slice-read-narrowed c = search needs
+slice-reshared-read-narrowed : tie.Need-slice-reshared-read-narrowed
+slice-reshared-read-narrowed c = search needs
 
-narrowed-requires : tie.Need-narrowed-requires Inv-loop μ-loop
-narrowed-requires c κs =
-    let l = c .before .before .before .before .before in
-    (start-of l .pre .few, l .loop .inv .spans)
+narrowed-requires-2 : tie.Need-narrowed-requires-2
+narrowed-requires-2 c κs = search needs
 
-add-j : tie.Need-add-j Inv-loop μ-loop
-add-j c = search needs
+parted-requires : tie.Need-parted-requires
+parted-requires c κs = search needs
 
-loop-less : tie.Need-loop-less Inv-loop μ-loop
-loop-less c = search needs
+same-length : tie.Need-same-length
+same-length c = search needs
 
-loop-again : tie.Need-loop-again Inv-loop μ-loop
-loop-again c = decided-more (c .before .before .before .before .before .before .loop .inv) (c .before .before .before .before .before .loop-test .taken) (c .narrowed .ensures)
-
-returns : tie.Need-returns Inv-loop μ-loop
+returns : tie.Need-returns
 returns c =
-    let s = c .before .before .before .before .loop .span in
-    decided-end (c .before .before .before .before .loop .inv) (inr (ltb-false (s .low + 1) (s .high) (c .if1 .left)))
+    let start = c .before .before .before .before .before .before .before .before .before in
+    let p = c .before .before .parted .ensures in
+    just-parts (now (start .args .marks)) (start .args .d) (now (start .args .n1)) (p .spans .met (c .if1 .taken))
 
-returns-2 : tie.Need-returns-2 Inv-loop μ-loop
-returns-2 c = decided-end (c .before .loop .inv) (inl (omega arith))
+untied-requires : tie.Need-untied-requires
+untied-requires c κs =
+    let start = c .before .before .before .before .before .before .before .before .before .before in
+    let second = c .before .before .before .before .before in
+    let p = tried-parted (second .before .before .narrowed .ensures) (second .narrowed2 .ensures) (c .before .before .before .parted .ensures) in
+    (start .pre .0, tie-of p (omega (arith, p .spans .order, c .before .if1 .left)), start .pre .2, start .pre .3)
+
+same-length-2 : tie.Need-same-length-2
+same-length-2 c = search needs
+
+returns-2 : tie.Need-returns-2
+returns-2 c = search needs
 
 pub bound-spec : {M : Type 1} → statement M
 bound-spec =
     tie.close
     (tie.spec
-    Inv-loop
-    μ-loop
-    guessed-requires
-    loop-holds
-    add-if1
-    mul-narrowed
-    shared-slice-read-narrowed
+    add-narrowed
     narrowed-requires
-    add-j
-    loop-less
-    loop-again
+    mul-narrowed
+    slice-reshared-read-narrowed
+    narrowed-requires-2
+    parted-requires
+    same-length
     returns
+    untied-requires
+    same-length-2
     returns-2)

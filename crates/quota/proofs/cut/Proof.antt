@@ -5,7 +5,7 @@ use borrow.Author.Needs.{needs}
 use denote.Ref.{now}
 use Rattle.quota.specs.Quota.{cutsOf}
 use Rattle.quota.specs.Inner.{Sharing}
-use Rattle.quota.proofs.Marks.{total-small, sharing, all-cut, marked, none-left, all-dealt}
+use Rattle.quota.proofs.Marks.{total-small, sharing, all-cut, marked, places, none-left, all-dealt}
 use Rattle.quota.proofs.cut.Statement.{statement}
 use Rattle.quota.proofs.cut.Tie as tie
 
@@ -45,7 +45,8 @@ bound-requires c κs =
     let made = c .before .before .before .before in
     let rated = rated-of made in
     let m = made .marks-into .ensures in
-    marked (shared rated) (m .1) (m .0) (rated .of .ensures .1)
+    let start = start-of rated in
+    (marked (shared rated) (m .1) (m .0) (omega (arith, c .before .if2 .left)), total-small (start .pre .0), start .pre .2, places (shared rated) (start .pre .1) (m .1))
 
 deal-requires : tie.Need-deal-requires
 deal-requires c κs = search needs
@@ -55,12 +56,12 @@ same-length-2 c = search needs
 
 returns-3 : tie.Need-returns-3
 returns-3 c =
-    let made = c .before .before .before .before .before .before .before .before .before in
+    let made = c .before .before .before .before .before .before .before .before .before .before .before in
     let rated = rated-of made in
     let start = start-of rated in
     let m = made .marks-into .ensures in
     c .before .before .deal .ensures
-    ∙ all-dealt (shared rated) _ (start .pre .1) (m .1) (m .0) (c .before .before .before .before .bound .ensures)
+    ∙ all-dealt (shared rated) (start .pre .1) _ (m .1) (m .0) (c .before .before .before .before .before .before .bound .ensures)
     ∙ ap (cutsOf (now (start .args .sizes))) (rated .of .ensures .0)
 
 pub cut-spec : {M : Type 1} → statement M

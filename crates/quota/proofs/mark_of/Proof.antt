@@ -5,20 +5,8 @@ use borrow.Author.Needs.{needs}
 use Rattle.quota.proofs.mark_of.Statement.{statement}
 use Rattle.quota.proofs.mark_of.Tie as tie
 
-mul-result : tie.Need-mul-result
-mul-result c = search needs
-
 add-result : tie.Need-add-result
 add-result c = search needs
-
-cast-result : tie.Need-cast-result
-cast-result c = search needs
-
-sub-result : tie.Need-sub-result
-sub-result c = search needs
-
-add-result-2 : tie.Need-add-result-2
-add-result-2 c = search needs
 
 returns : tie.Need-returns
 unfolding markBy
@@ -30,5 +18,4 @@ returns-2 c = rw (le-ltb _ _ (c .if1 .left))
 
 pub mark-of-spec : {M : Type 1} → statement M
 mark-of-spec =
-    tie.close
-    (tie.spec mul-result add-result cast-result sub-result add-result-2 returns returns-2)
+    tie.close (tie.spec add-result returns returns-2)

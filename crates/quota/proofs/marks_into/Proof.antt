@@ -52,7 +52,7 @@ mark-of-requires c κs =
     let test = c .before .before .before in
     let l = test .before in
     let a = start-of l .pre in
-    (rest-small _ (a .rated) (share .ensures .1), omega (arith, inside test, a .sized .few))
+    rest-small _ (a .rated) (share .ensures .1)
 
 mul-sizes : tie.Need-mul-sizes Inv-loop μ-loop
 mul-sizes c = search needs
