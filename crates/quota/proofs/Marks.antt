@@ -6,21 +6,21 @@ use mathlib.Core.List.{List}
 use native.Mathlib.Omega.{arith}
 use native.Mathlib.Nat.{mul-le-mul-left, lt-of-mul-lt-mul-right}
 use native.Mathlib.Decide.{decLt}
-use lib.Dec.{ltb, eqb}
+use lib.Dec.{ltb}
 use lib.IntN.{ℤ}
 use lib.ListN.{length, getD}
-use borrow.Author.Tests.{lt-ltb, le-ltb, eq-eqb, ne-eqb}
+use borrow.Author.Tests.{lt-ltb, le-ltb}
 use Rattle.numbers.specs.Column.{column, at}
 use Rattle.numbers.specs.Sum.{sum, bit, count}
 use Rattle.numbers.proofs.Columns.{column-length, column-at, column-past, column-self, column-ext}
-use Rattle.numbers.proofs.Sums.{count-cong, count-all, sumTo-one, sumTo-mono, sumTo-lt, sumTo-mul, sum-bound, ltb-iff}
+use Rattle.numbers.proofs.Sums.{count-cong, count-all, sumTo-one, sumTo-mono, sumTo-lt, sumTo-mul, sum-bound}
 use Rattle.terms.specs.Quantities.{sizeIn}
 use Rattle.terms.specs.declared.quantity.Direction.{Direction}
 use Rattle.quota.specs.Quota.{whole, rest, ahead, before, rank, still, cutAt, cutsOf}
 use Rattle.quota.specs.Inner.{Asked, Own, Rated, Sharing, top, tied, markBy, mark, marksOf, Marked, earlierBy, Parts, dealtAt}
 use Rattle.quota.specs.declared.Ratio.{Ratio}
 use Rattle.quota.proofs.Fairness.{length-cuts, cuts-all}
-use Rattle.quota.proofs.Order.{ahead-under}
+use Rattle.quota.proofs.Order.{ahead-over, ahead-under, ahead-same}
 use Rattle.quota.proofs.Ratios.{share-le}
 use Rattle.quota.proofs.Shares.{rest-lt, rest-size, still-rests, dealt-rest}
 
@@ -51,16 +51,12 @@ mark-whole w x e = rw (le-ltb 0 x (omega arith))
 
 -- remainders above `top` come in the same order
 ahead-top : (x y m n i j : ℕ) → ahead (top + x) (top + y) m n i j ≡ ahead x y m n i j
-unfolding ahead
-ahead-top x y m n i j = rw (ltb-iff (top + x) (top + y) x y (λ l. omega arith) (λ l. omega arith), eqb-top) refl
+ahead-top x y m n i j = go (decLt x y) (decLt y x)
   where
-    eqb-top : eqb (top + x) (top + y) ≡ eqb x y
-    eqb-top = go (decLt x y) (decLt y x)
-      where
-        go : Dec (x < y) → Dec (y < x) → eqb (top + x) (top + y) ≡ eqb x y
-        go (yes l) _ = rw (ne-eqb x y (λ e. omega arith), ne-eqb (top + x) (top + y) (λ e. omega arith))
-        go (no l) (yes g) = rw (ne-eqb x y (λ e. omega arith), ne-eqb (top + x) (top + y) (λ e. omega arith))
-        go (no l) (no g) = rw (eq-eqb x y (omega arith), eq-eqb (top + x) (top + y) (omega arith))
+    go : Dec (x < y) → Dec (y < x) → ahead (top + x) (top + y) m n i j ≡ ahead x y m n i j
+    go (yes l) _ = ahead-over (top + x) (top + y) m n i j (omega arith) ∙ sym (ahead-over x y m n i j l)
+    go (no l) (yes g) = ahead-under (top + x) (top + y) m n i j (omega arith) ∙ sym (ahead-under x y m n i j g)
+    go (no l) (no g) = ahead-same (top + x) (top + y) m n i j (omega arith) ∙ sym (ahead-same x y m n i j (omega arith))
 
 module _ {s : List ℕ} {r : Ratio} (h : Sharing s r) where
   abbrev c : ℕ
