@@ -1,14 +1,11 @@
 -- A refusal of a unit's field names the first unit that does not pass: the offer's checks lead to its units, and the walk over them to its record.
 use Prim.Native.Nat.{ℕ, zero, suc, _+_, _-_, _≤_, _<_}
 use mathlib.Core.Path.{_≡_, refl, sym, ap, _∙_}
-use mathlib.Core.Bool.{Bool, true, false, not, false≢true}
+use mathlib.Core.Bool.{true, not, false≢true}
 use mathlib.Core.List.{List, [], _∷_}
 use native.Mathlib.Omega.{arith}
 use borrow.Author.Tests.{lt-ltb, le-ltb, le-leb}
-use lib.Dec.{eqb}
 use lib.ListN.{length}
-use Rattle.numbers.specs.Bytes.{byteAt}
-use Rattle.numbers.specs.Choice.{pick}
 use Rattle.terms.specs.Reply.{Reply, is, refused}
 use Rattle.terms.specs.Refusals.{numberOf, whyOf, refusal}
 use Rattle.terms.specs.declared.refusal.Fault.{Fault}
@@ -25,7 +22,7 @@ use Rattle.records.proofs.Places.{place-later, place-from}
 use Rattle.walk.specs.declared.table.Role.{Role}
 use Rattle.walk.specs.declared.table.Role.the-variants.{Opens, Block, Closes}
 use Rattle.walk.specs.declared.table.Head.{Head}
-use Rattle.walk.specs.Table.{comes, none, roleOr, roleOf, isBlock}
+use Rattle.walk.specs.Table.{isBlock}
 use Rattle.blocks.proofs.ByUnits.{afterUnits, unmade}
 use Rattle.day.specs.declared.value.Day.{Day}
 use Rattle.day.specs.Checking.{blockFieldsOf}
@@ -103,21 +100,6 @@ number-at-hand s at h =
     let long : at + L.unitClass .place ≤ length s = omega (arith, read-long s at h, length-least (L.unitAt s at)) in
     rw (le-leb _ _ long, read-kind s at h)
 
-no-block : {P : Type 0} (role : Role) → isBlock role ≡ false → role ≡ Block → P
-no-block role e k =
-    let z : isBlock role ≡ isBlock Block = ap isBlock k in
-    absurd (false≢true (sym e ∙ z))
-
--- what is a block is a group record
-block-kind : (kind : ℕ) → roleOf kind ≡ Block → eqb kind L.groupKind ≡ true
-block-kind kind k = go (eqb kind L.dayKind) (eqb kind L.groupKind) (eqb kind L.endKind) k
-  where
-    go : (d g n : Bool) → roleOr (roleOr Closes (pick g (comes Block (L.groupLength - 1)) (pick n (comes Closes (L.endLength - 1)) none))) (pick d (comes Opens (L.dayLength - 1)) none) ≡ Block → g ≡ true
-    go true g n e = no-block Opens refl e
-    go false true n e = refl
-    go false false true e = no-block Closes refl e
-    go false false false e = no-block Closes refl e
-
 -- ---- from the offer to the block's units
 module _ (day : Day) (s : List ℕ) (n p : ℕ) (own : ofUnit (whyBy n) ≡ true) where
   -- a number of a unit's field is that of no other check
@@ -150,8 +132,8 @@ module _ (day : Day) (s : List ℕ) (n p : ℕ) (own : ofUnit (whyBy n) ≡ true
   by-role room head h Opens k f = absurd (no dayNumbers refl (by-opens day s (head .end)) f)
   by-role room head h Block k f =
       let long = le-leb L.groupLength (length s) (group-long day s head h k) in
-      let kind = block-kind (byteAt s 0) (head-came day s head h .first ∙ k) in
-      record { whole = rw (long, kind); refusing = block-first room f }
+      let block = ap isBlock (head-came day s head h .first ∙ k) in
+      record { whole = rw (long, block); refusing = block-first room f }
   by-role room head h Closes k f = absurd (no endNumbers refl (by-closes day s (head .end)) f)
 
   reached : (room : ℕ) → offerOf day s room ≡ refused n p → Reached

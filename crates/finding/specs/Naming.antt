@@ -1,8 +1,8 @@
 -- What a refusal names, from the day before the offer, the bytes offered, and its number and place.
 use Prim.Native.Nat.{ℕ, _+_, _-_}
-use mathlib.Core.Bool.{Bool, _&&_}
+use mathlib.Core.Bool.{Bool, _&&_, _||_}
 use mathlib.Core.List.{List}
-use lib.Dec.{eqb, leb, ltb}
+use lib.Dec.{leb, ltb}
 use lib.ListN.{length}
 use Rattle.numbers.specs.Bytes.{byteAt}
 use Rattle.numbers.specs.Choice.{pick}
@@ -13,6 +13,10 @@ use Rattle.records.specs.declared.day.DayRecord.{DayRecord}
 use Rattle.records.specs.declared.key.Key.{Key}
 use Rattle.records.specs.Layouts as L
 use Rattle.records.specs.Reading.{keyOf}
+use Rattle.walk.specs.declared.table.State.the-variants.{Fresh, Open}
+use Rattle.walk.specs.declared.table.Role.{Role}
+use Rattle.walk.specs.declared.table.Role.the-variants.{Opens, Block, Closes}
+use Rattle.walk.specs.Table.{mayCome, roleOf}
 use Rattle.day.specs.declared.value.Day.{Day}
 use Rattle.finding.specs.declared.spot.Spot.{Spot}
 use Rattle.finding.specs.declared.spot.Spot.the-variants.{Front, Unit}
@@ -37,13 +41,20 @@ use Rattle.finding.specs.Spots.{groupWhole, spotOf, recordAt, beforeAt}
 abbrev pub keyIn : List ℕ → Key
 keyIn s = keyOf (L.groupAt s 0)
 
--- a group record that lies whole in front names the group; any other record is named by its kind
-abbrev pub kindSubject : ℕ → Subject
-kindSubject kind =
-    pick (eqb kind L.dayKind) S.Day
-    (pick (eqb kind L.groupKind) S.Group
-    (pick (eqb kind L.endKind) S.End S.Record))
+-- what a record is to a day names it
+abbrev pub roleSubject : Role → Subject
+roleSubject Opens = S.Day
+roleSubject Block = S.Group
+roleSubject Closes = S.End
 
+-- some state takes a record of this kind
+abbrev pub isTaken : ℕ → Bool
+isTaken kind = mayCome Fresh kind || mayCome Open kind
+
+abbrev pub kindSubject : ℕ → Subject
+kindSubject kind = pick (isTaken kind) (roleSubject (roleOf kind)) S.Record
+
+-- a group record that lies whole in front names the group; any other record is named by its kind
 abbrev pub frontSubject : List ℕ → Subject
 frontSubject s = pick (groupWhole s) (S.Block (keyIn s)) (kindSubject (byteAt s 0))
 

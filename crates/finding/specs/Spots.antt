@@ -2,18 +2,19 @@
 use Prim.Native.Nat.{ℕ, zero, suc, _+_}
 use mathlib.Core.Bool.{Bool, _&&_}
 use mathlib.Core.List.{List}
-use lib.Dec.{eqb, leb, ltb}
+use lib.Dec.{leb, ltb}
 use lib.ListN.{length}
 use Rattle.numbers.specs.Bytes.{byteAt}
 use Rattle.numbers.specs.Choice.{pick}
-use Rattle.records.specs.Layouts.{groupKind, groupLength, groupAt}
+use Rattle.records.specs.Layouts.{groupLength, groupAt}
 use Rattle.records.specs.Reading.{unitEnd}
+use Rattle.walk.specs.Table.{roleOf, isBlock}
 use Rattle.finding.specs.declared.spot.Spot.{Spot}
 use Rattle.finding.specs.declared.spot.Spot.the-variants.{Front, Unit}
 
 -- a group record lies whole in front of the bytes
 abbrev pub groupWhole : List ℕ → Bool
-groupWhole s = leb groupLength (length s) && eqb (byteAt s 0) groupKind
+groupWhole s = leb groupLength (length s) && isBlock (roleOf (byteAt s 0))
 
 -- a unit record lies from its place to its end: the one in which a place lies, of so many that follow one another
 unfoldable pub spotFrom : List ℕ → ℕ → ℕ → ℕ → ℕ → ℕ → Spot

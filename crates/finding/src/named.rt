@@ -5,7 +5,7 @@ ghost use Rattle.records.specs.Layouts.{groupAt};
 ghost use Rattle.records.specs.Reading.{keyOf};
 ghost use Rattle.finding.specs.Inner.{Near};
 ghost use Rattle.finding.specs.Spots.{recordAt};
-ghost use Rattle.finding.specs.Naming.{unitFieldAt, unitValueAt, valueIn, kindSubject, frontSubject, unitSubject, subjectOf, flagHeld, ageHeld, toldOf};
+ghost use Rattle.finding.specs.Naming.{unitFieldAt, unitValueAt, valueIn, roleSubject, isTaken, kindSubject, frontSubject, unitSubject, subjectOf, flagHeld, ageHeld, toldOf};
 ghost use Rattle.finding.specs.Naming.{numberFinding, flagFinding, rangeFinding, crossedFinding, positionsFinding, marginsFinding, findingOf, namedOf};
 use crate::reading::byte;
 use crate::reading::half;
@@ -27,6 +27,9 @@ use records::key::Last;
 use records::unit::UnitRecord;
 use terms::refusal::Refusal;
 use terms::refusal::Why;
+use walk::table::Role;
+use walk::table::State;
+use walk::table::role_of;
 
 // The record that a refusal speaks of, or the plants.
 pub enum Subject {
@@ -117,17 +120,31 @@ fn key_of(s: &[u8]) -> Key
     }
 }
 
+fn role_subject(role: Role) -> Subject
+    ensures { λ r. ⌜ r ≡ roleSubject role ⌝ }
+{
+    match role {
+        Role::Opens => Subject::Day,
+        Role::Block => Subject::Group,
+        Role::Closes => Subject::End,
+    }
+}
+
+// Whether some state takes a record of this kind.
+fn is_taken(kind: u8) -> bool
+    ensures { λ r. ⌜ r ≡ isTaken kind ⌝ }
+{
+    if 0 < State::Fresh.body(kind) {
+        return true;
+    }
+    0 < State::Open.body(kind)
+}
+
 fn kind_subject(kind: u8) -> Subject
     ensures { λ r. ⌜ r ≡ kindSubject kind ⌝ }
 {
-    if kind == DayRecord::KIND {
-        return Subject::Day;
-    }
-    if kind == GroupRecord::KIND {
-        return Subject::Group;
-    }
-    if kind == EndRecord::KIND {
-        return Subject::End;
+    if is_taken(kind) {
+        return role_subject(role_of(kind));
     }
     Subject::Record
 }

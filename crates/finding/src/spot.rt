@@ -4,6 +4,7 @@ ghost use Rattle.finding.specs.Inner.{Spotted};
 ghost use Rattle.finding.specs.Spots.{groupWhole, recordAt, beforeAt};
 use crate::reading::unit_length;
 use records::group::GroupRecord;
+use walk::table::role_of;
 
 // A unit record: its index, its place, and the place of the one before; the first has none before it, and tells its own.
 pub struct UnitSpot {
@@ -24,7 +25,7 @@ pub fn is_group(s: &[u8]) -> bool
     if s.len() < GroupRecord::LEN {
         return false;
     }
-    s[0] == GroupRecord::KIND
+    role_of(s[0]).is_block()
 }
 
 pub fn spot_of(s: &[u8], place: usize) -> Spot

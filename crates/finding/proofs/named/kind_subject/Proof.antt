@@ -1,19 +1,32 @@
--- `kind_subject` meets its contract, answer by answer.
-use borrow.Author.Tests.{eq-eqb, ne-eqb}
+-- `kind_subject` meets its contract: what the record is to a day, or else some record.
+use mathlib.Core.Path.{sym, _∙_}
+use borrow.Author.Needs.{needs}
 use Rattle.finding.proofs.named.kind_subject.Statement.{statement}
 use Rattle.finding.proofs.named.kind_subject.Tie as tie
 
+is-taken-requires : tie.Need-is-taken-requires
+is-taken-requires c κs = search needs
+
+role-of-requires : tie.Need-role-of-requires
+role-of-requires c κs = search needs
+
+role-subject-requires : tie.Need-role-subject-requires
+role-subject-requires c κs = search needs
+
 returns : tie.Need-returns
-returns c = rw (eq-eqb _ _ (c .if1 .taken))
+returns c =
+    let test = c .before .before in
+    rw (sym (test .before .is-taken .ensures) ∙ test .if1 .taken) (rw (c .before .role-of .ensures) at (c .role-subject .ensures))
 
 returns-2 : tie.Need-returns-2
-returns-2 c = rw (ne-eqb _ _ (c .before .if1 .left), eq-eqb _ _ (c .if2 .taken))
-
-returns-3 : tie.Need-returns-3
-returns-3 c = rw (ne-eqb _ _ (c .before .before .if1 .left), ne-eqb _ _ (c .before .if2 .left), eq-eqb _ _ (c .if3 .taken))
-
-returns-4 : tie.Need-returns-4
-returns-4 c = rw (ne-eqb _ _ (c .before .before .if1 .left), ne-eqb _ _ (c .before .if2 .left), ne-eqb _ _ (c .if3 .left))
+returns-2 c = rw (sym (c .before .is-taken .ensures) ∙ c .if1 .left)
 
 pub kind-subject-spec : {M : Type 1} → statement M
-kind-subject-spec = tie.close (tie.spec returns returns-2 returns-3 returns-4)
+kind-subject-spec =
+    tie.close
+    (tie.spec
+    is-taken-requires
+    role-of-requires
+    role-subject-requires
+    returns
+    returns-2)
