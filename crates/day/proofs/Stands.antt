@@ -21,7 +21,7 @@ use Rattle.records.proofs.Alike.{Agree, agree, day-kept, group-kept, end-kept, 
 use Rattle.records.proofs.Accepted.{units-accepted}
 use Rattle.records.proofs.UnitHeads.{unit-most, unit-there, unit-longer, read-long, unit-long}
 use Rattle.records.proofs.Read.{group-passed}
-use Rattle.records.proofs.Numbers.{dayNumbers, groupNumbers, endNumbers, by-head, by-group, by-unit}
+use Rattle.records.proofs.Numbers.{dayNumbers, groupNumbers, endNumbers, by-unit-head, by-group, by-unit}
 use Rattle.walk.specs.declared.table.State.{State}
 use Rattle.walk.specs.declared.table.Role.{Role}
 use Rattle.walk.specs.declared.table.Role.the-variants as R
@@ -142,7 +142,7 @@ offer-stands day s t room =
 module _ (s : List ℕ) where
   unit-enough : (at floor : ℕ) (d : DayRecord) → at + longestUnit ≤ length s → By uncutNumbers (unitOf s at floor d)
   unit-enough at floor d h =
-      by-unit s uncutNumbers at floor d refl (by-more (2 ∷ []) uncutNumbers refl (by-without 1 (2 ∷ []) (unit-there s at h) (by-head s at _ _)))
+      by-unit s uncutNumbers at floor d refl (by-more (2 ∷ []) uncutNumbers refl (by-without 1 (2 ∷ []) (unit-there s at h) (by-unit-head s at)))
 
   units-enough : (at floor : ℕ) (d : DayRecord) (count : ℕ) → at + longestUnit * count ≤ length s → By uncutNumbers (unitsOf s at floor d count)
   unfolding unitsOf

@@ -17,7 +17,7 @@ use Rattle.records.specs.Layouts.{unitAt}
 use Rattle.records.specs.Reading.{unitHeadOf, unitEnd, placeFrom, faultPlace, unitFaults, unitFieldsOf, unitOf, unitsOf}
 use Rattle.records.proofs.Turns.{place-inside}
 use Rattle.records.proofs.Places.{place-later}
-use Rattle.records.proofs.Numbers.{headNumbers, by-head}
+use Rattle.records.proofs.Numbers.{headNumbers, by-unit-head}
 
 -- a refusal came of the reading in front, or of what comes after it
 pub data From {A B : Type 0} (x : Reply A) (rest : A → Reply B) (n p : ℕ) : Type 0 where
@@ -60,7 +60,7 @@ module _ (n p : ℕ) (other : isOf headNumbers n ≡ true → ⊥) where
   unit-no s at floor d e = go (next-from (unitHeadOf s at) (λ _. unitFieldsOf s at floor d) e)
     where
       go : From (unitHeadOf s at) (λ _. unitFieldsOf s at floor d) n p → Faulted s at floor d
-      go (front h) = absurd (other (by-each (isOf headNumbers) headNumbers refl (by-head s at _ _) h))
+      go (front h) = absurd (other (by-each (isOf headNumbers) headNumbers refl (by-unit-head s at) h))
       go (after end h f) = checks-no s at floor d end h (unitFaults (unitAt s at) floor d) refl f
 
   -- the first that fails, of units that are not all accepted

@@ -9,7 +9,6 @@ ghost use Rattle.finding.specs.Naming.{unitFieldAt, unitValueAt, valueIn
 ghost use Rattle.finding.specs.Naming.{numberFinding, flagFinding, rangeFinding, crossedFinding, positionsFinding, marginsFinding, findingOf, namedOf};
 use crate::reading::byte;
 use crate::reading::half;
-use crate::reading::is_unit;
 use crate::reading::signed;
 use crate::reading::word;
 use crate::spot::Spot;
@@ -25,6 +24,7 @@ use records::group::GroupRecord;
 use records::key::Key;
 use records::key::Last;
 use records::unit::UnitRecord;
+use records::unit::is_unit;
 use terms::refusal::Refusal;
 use terms::refusal::Why;
 use walk::table::Role;

@@ -2,9 +2,7 @@
 ghost use mathlib.Core.Path.{_≡_};
 ghost use Prim.Native.Nat.{_+_, _<_};
 ghost use Rattle.numbers.specs.Bytes.{byteAt, be16, be32, signed32};
-ghost use Rattle.records.specs.Layouts.{isUnit, unitAt, lengthOf};
 use numbers::signed::from_bits;
-use records::unit::UnitRecord;
 
 pub fn byte(s: &[u8], at: usize) -> u8
     ensures { λ r. ⌜ r ≡ byteAt (now (s .entry)) at ⌝ }
@@ -35,18 +33,4 @@ pub fn signed(s: &[u8], at: usize) -> i32
     ensures { λ r. ⌜ r ≡ signed32 (be32 (now (s .entry)) at) ⌝ }
 {
     from_bits(word(s, at))
-}
-
-// Whether a record of this kind is a unit's.
-pub fn is_unit(kind: u8) -> bool
-    ensures { λ r. ⌜ r ≡ isUnit kind ⌝ }
-{
-    kind == UnitRecord::KIND
-}
-
-// How many bytes the unit record has that begins at a place, be they there or not.
-pub fn unit_length(s: &[u8], at: usize) -> usize
-    ensures { λ r. ⌜ r ≡ lengthOf (unitAt (now (s .entry)) at) ⌝ }
-{
-    UnitRecord::LEN
 }

@@ -2,8 +2,8 @@
 ghost use mathlib.Core.Path.{_≡_};
 ghost use Rattle.finding.specs.Inner.{Spotted};
 ghost use Rattle.finding.specs.Spots.{groupWhole, recordAt, beforeAt};
-use crate::reading::unit_length;
 use records::group::GroupRecord;
+use records::units::unit_length;
 use walk::table::role_of;
 
 // A unit record: its index, its place, and the place of the one before; the first has none before it, and tells its own.

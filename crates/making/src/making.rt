@@ -22,9 +22,6 @@ use writers::lay::lay_unit;
 use writers::single::write_day;
 use writers::single::write_end;
 
-// The longest block.
-pub const ROOM: usize = GroupRecord::LEN + UnitRecord::LEN * (GroupRecord::UNITS as usize);
-
 // The first refusal of a block that is told when all its lines are read: number, line and what of the line.
 pub enum Found {
     Nothing,

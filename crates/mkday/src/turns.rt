@@ -9,8 +9,8 @@ use crate::outcome::Outcome;
 use crate::outcome::written;
 use making::making::Made;
 use making::making::Making;
-use making::making::ROOM;
 use making::spot::Spot;
+use records::group::GroupRecord;
 use text::line::line_in;
 
 // Where the reading and the making stand, and how many bytes of the output wait to be written; or how the run ended.
@@ -31,7 +31,7 @@ fn stop(outcome: Outcome, output: &[u8], full: usize) -> Step {
 fn keep(input: Input, making: Making, output: &[u8], full: usize) -> Step
     requires { ⌜ full ≤ length (now output) ⌝ }
 {
-    if ROOM <= output.len() - full {
+    if GroupRecord::LONGEST_BLOCK <= output.len() - full {
         return Step::On(input, making, full);
     }
     if !written(output, full) {

@@ -35,6 +35,9 @@ module _ (s : List ℕ) where
   unfolding headOf
   by-head at kind len = by-need _ 1 _ refl (by-need _ 2 _ refl (by-need _ 1 _ refl (value _)))
 
+  pub by-unit-head : (at : ℕ) → By headNumbers (unitHeadOf s at)
+  by-unit-head at = by-head at _ _
+
   pub by-day : By dayNumbers (dayFieldsOf s)
   unfolding dayFieldsOf
   by-day = by-need _ 3 _ refl (value _)
@@ -61,4 +64,4 @@ module _ (s : List ℕ) where
   unfolding unitsOf
   by-units at floor day zero = value at
   by-units at floor day (suc left) =
-      by-next (by-unit unitNumbers at floor day refl (by-more headNumbers unitNumbers refl (by-head at _ _))) (λ u _. by-units (unitEnd s at) (u .number + 1) day left)
+      by-next (by-unit unitNumbers at floor day refl (by-more headNumbers unitNumbers refl (by-unit-head at))) (λ u _. by-units (unitEnd s at) (u .number + 1) day left)

@@ -1,4 +1,4 @@
--- "House records": a block is one group record and its units, at most 1,674 bytes; its result at most 1,307.
+-- "House records": how long a block, one group record and its units, can be, and its result.
 use Prim.Native.Nat.{ℕ, _+_, _*_}
 use Rattle.terms.specs.Checks.{mostUnits}
 use Rattle.records.specs.Layouts.{groupLength, longestUnit, groupResultLength, unitResultLength}

@@ -26,7 +26,7 @@ use Rattle.records.specs.declared.key.Last.{Last}
 use Rattle.records.specs.declared.key.Last.the-variants.{Nothing, Block}
 use Rattle.records.specs.Layouts.{dayKind, dayLength, dayQuarters, dayAt, dayLengthOf}
 use Rattle.records.specs.Layouts.{groupKind, groupLength, groupBrp, groupQuarter, groupCount, groupMade, groupAt}
-use Rattle.records.specs.Layouts.{unitKind, unitLength, unitAt, lengthOf, marginsOf}
+use Rattle.records.specs.Layouts.{unitKind, unitAt, lengthOf, marginsOf}
 use Rattle.records.specs.Layouts.{unitNumber, unitClass, unitCoincide, unitNominated, unitN, unitPc, unitStepDown, unitStepUp, unitMade}
 use Rattle.records.specs.Layouts.{endKind, endLength, endGroups, endAt}
 
@@ -113,9 +113,13 @@ unfoldable pub endOf : List ℕ → ℕ → Reply EndRecord
 endOf s groups = next (endHeadOf s) λ _. endFieldsOf s groups
 
 -- ---- the unit records of a block
+-- the kind of unit record that is due at a place
+abbrev pub kindDue : List ℕ → ℕ → ℕ
+kindDue s at = unitKind
+
 -- the head of the unit record that is to begin at a place
 abbrev pub unitHeadOf : List ℕ → ℕ → Reply ℕ
-unitHeadOf s at = headOf s at unitKind unitLength
+unitHeadOf s at = headOf s at (kindDue s at) (lengthOf (unitAt s at))
 
 -- where the unit record that begins at a place ends
 abbrev pub unitEnd : List ℕ → ℕ → ℕ

@@ -18,6 +18,7 @@ use crate::head::head;
 use crate::key::Key;
 use crate::key::KeyAnswer;
 use crate::key::Last;
+use crate::unit::UnitRecord;
 use numbers::bytes::u16_at;
 use numbers::bytes::u32_at;
 use terms::check::is_count;
@@ -51,6 +52,9 @@ impl GroupRecord {
 
     // A group has 1 to UNITS units.
     pub const UNITS: usize = terms::check::UNITS;
+
+    // No block is longer.
+    pub const LONGEST_BLOCK: usize = GroupRecord::LEN + UnitRecord::LEN * GroupRecord::UNITS;
 
     pub fn new(brp: u16, zone: u8, quarter: u8, count: u8, made: u32) -> GroupRecord
         ensures { λ r. ⌜ r ≡ groupWith brp zone quarter count made ⌝ }

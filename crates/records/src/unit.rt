@@ -2,7 +2,7 @@
 ghost use mathlib.Core.Path.{_≡_};
 ghost use Prim.Native.Nat.{_≤_};
 ghost use lib.ListN.{length};
-ghost use Rattle.records.specs.Layouts.{unitWith, unitAt, lengthOf, marginsOf};
+ghost use Rattle.records.specs.Layouts.{isUnit, unitWith, unitAt, lengthOf, marginsOf};
 ghost use Rattle.records.specs.Reading.{faultPlace, unitEnd};
 use numbers::bytes::i32_at;
 use numbers::bytes::u16_at;
@@ -112,6 +112,13 @@ impl UnitRecord {
             Fault::Age => UnitRecord::MADE,
         }
     }
+}
+
+// Whether a record of this kind is a unit's.
+pub fn is_unit(kind: u8) -> bool
+    ensures { λ r. ⌜ r ≡ isUnit kind ⌝ }
+{
+    kind == UnitRecord::KIND
 }
 
 // The fields of a unit record that is there whole.

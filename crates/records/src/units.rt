@@ -5,7 +5,8 @@ ghost use lib.ListN.{length};
 ghost use Rattle.terms.specs.Refusals.{answer};
 ghost use Rattle.records.specs.Answers.{unitReply, unitRefusal};
 ghost use Rattle.records.specs.Inner.{isWhole};
-ghost use Rattle.records.specs.Reading.{unitHeadOf, unitEnd, unitFieldsOf, unitOf, unitsOf};
+ghost use Rattle.records.specs.Layouts.{unitAt, lengthOf};
+ghost use Rattle.records.specs.Reading.{kindDue, unitHeadOf, unitEnd, unitFieldsOf, unitOf, unitsOf};
 use crate::day::DayRecord;
 use crate::faults::unit_faults;
 use crate::head::head;
@@ -47,6 +48,20 @@ pub fn is_whole(s: &[u8], at: usize) -> bool
     s[at] == UnitRecord::KIND
 }
 
+// How many bytes the unit record has that begins at a place, be they there or not.
+pub fn unit_length(s: &[u8], at: usize) -> usize
+    ensures { λ r. ⌜ r ≡ lengthOf (unitAt (now (s .entry)) at) ⌝ }
+{
+    UnitRecord::LEN
+}
+
+// The kind of unit record that is due at a place.
+fn kind_due(s: &[u8], at: usize) -> u8
+    ensures { λ r. ⌜ r ≡ kindDue (now (s .entry)) at ⌝ }
+{
+    UnitRecord::KIND
+}
+
 // Where the unit record that is to begin at a place ends: 1 if nothing is there, 2, 1. Whether it lies there whole is one look, and what is wrong is asked only where it does not.
 pub fn unit_head(s: &[u8], at: usize) -> Answer
     ensures { λ r. ⌜ answer r ≡ unitHeadOf (now (s .entry)) at ⌝ }
@@ -54,7 +69,7 @@ pub fn unit_head(s: &[u8], at: usize) -> Answer
     if is_whole(s, at) {
         return Answer::Is(unit_end(s, at));
     }
-    head(s, at, UnitRecord::KIND, UnitRecord::LEN)
+    head(s, at, kind_due(s, at), unit_length(s, at))
 }
 
 // A unit record that is there whole, judged by the day.

@@ -11,6 +11,7 @@ use Rattle.numbers.specs.Bytes.{be16, bytes16, bytes32, bits32}
 use Rattle.numbers.specs.Column.{at}
 use Rattle.numbers.proofs.Laid.{laid-next, laid-under, length-laid}
 use Rattle.records.specs.Layouts.{behind, unitAt, unitResultKind, unitResultBytes}
+use Rattle.records.proofs.UnitHeads.{length-least}
 use Rattle.writers.specs.Results.{resultFrom}
 use Rattle.blocks.proofs.Laying.{laid-quantity}
 use borrow.Author.Needs.{needs}
@@ -78,7 +79,9 @@ add-u16-at : tie.Need-add-u16-at
 add-u16-at c = omega arith
 
 u16-at-requires : tie.Need-u16-at-requires
-u16-at-requires c κs = omega arith
+u16-at-requires c κs =
+    let s = c .before .before .before .before .before .before .before .before .before .before .before .before .before .before .before .before .before .before .before .before .before .before .before in
+    omega (arith, s .pre .bytes, length-least (unitAt (now (s .args .s)) (s .args .here)))
 
 lay-head-requires : tie.Need-lay-head-requires
 lay-head-requires c κs = omega arith

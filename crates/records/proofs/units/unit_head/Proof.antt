@@ -20,11 +20,17 @@ returns c =
     let a = whole .before .before .args in
     rw (c .unit-end .ensures) (sym (whole-read (now (a .s)) (a .at) (sym (whole .is-whole .ensures) ∙ c .before .if1 .taken)))
 
+kind-due-requires : tie.Need-kind-due-requires
+kind-due-requires c κs = search needs
+
+unit-length-requires : tie.Need-unit-length-requires
+unit-length-requires c κs = search needs
+
 head-requires : tie.Need-head-requires
 head-requires c κs = search needs
 
 returns-2 : tie.Need-returns-2
-returns-2 c = search needs
+returns-2 c = rw (c .before .unit-length .ensures, c .before .before .kind-due .ensures) at (c .head .ensures)
 
 pub unit-head-spec : {M : Type 1} → statement M
-unit-head-spec = tie.close (tie.spec is-whole-requires unit-end-requires returns head-requires returns-2)
+unit-head-spec = tie.close (tie.spec is-whole-requires unit-end-requires returns kind-due-requires unit-length-requires head-requires returns-2)
