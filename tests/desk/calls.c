@@ -8,7 +8,7 @@
 #include <string.h>
 #include <sys/mman.h>
 
-enum { CALL = 9, HEAD = 5, BODY_MAX = 8192, ROOM_MAX = 2048, PIECE = 65536, FILLER = 0xA5 };
+enum { CALL = 9, HEAD = 5, BODY_MAX = 8192, ROOM_MAX = 2304, PIECE = 65536, FILLER = 0xA5 };
 
 _Static_assert(FLEHWELLA_BLOCK_LENGTH(FLEHWELLA_UNITS_MAX) == FLEHWELLA_BLOCK_MAX, "the longest block");
 _Static_assert(FLEHWELLA_RESULT_LENGTH(FLEHWELLA_UNITS_MAX) == FLEHWELLA_RESULT_MAX, "the longest result");
