@@ -21,7 +21,7 @@ extern "C" {
 #endif
 
 /* The version of this header and of the library it came with. */
-#define FLEHWELLA_VERSION "0.4.0"
+#define FLEHWELLA_VERSION "0.5.0"
 
 /* Lengths in bytes of what goes in: a day record; a group record and its unit records, which together are a block. A unit
  * record is of kind 03h, or of kind 04h: that has the fields of 03h and then the two ends of a feasibility interval, and its
