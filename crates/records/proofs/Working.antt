@@ -10,6 +10,7 @@ use Rattle.numbers.proofs.Choices.{and-both}
 use Rattle.numbers.proofs.Integers.{zarith}
 use Rattle.records.specs.declared.unit.UnitRecord.{UnitRecord}
 use Rattle.records.specs.Layouts.{intervalKind, fullLower, fullUpper, largerOf, smallerOf, marginsOf}
+use Rattle.records.specs.Decoding.{Inside}
 use Rattle.records.proofs.Accepted.{Sound}
 use Rattle.records.proofs.Marks.{equal}
 
@@ -37,13 +38,7 @@ module _ (u : UnitRecord) (s : Sound u) where
           (rw l (larger-full (u .«step_down») (s .down) _ refl), rw h (smaller-full (u .«step_up») (s .up) _ refl))
 
   -- what lies inside them lies inside the margins and inside the interval
-  pub record Inside (z : ℤ) : Type 0 where
-    pub down : leZ (u .«step_down») z ≡ true
-    pub up : leZ z (u .«step_up») ≡ true
-    pub lower : leZ (u .lower) z ≡ true
-    pub upper : leZ z (u .upper) ≡ true
-
-  pub inside : (z : ℤ) → leZ (marginsOf u .«step_down») z ≡ true → leZ z (marginsOf u .«step_up») ≡ true → Inside z
+  pub inside : (z : ℤ) → leZ (marginsOf u .«step_down») z ≡ true → leZ z (marginsOf u .«step_up») ≡ true → Inside u z
   inside z low high =
       let w = working in
       let a = above (u .«step_down») (u .lower) z _ refl (rw (w .0) at low) in
