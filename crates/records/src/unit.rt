@@ -98,6 +98,8 @@ impl UnitRecord {
     {
         let n = self.n;
         let pc = self.pc;
+        let step_down = self.step_down;
+        let step_up = self.step_up;
         UnitRecord {
             number: self.number,
             class: self.class,
@@ -105,8 +107,8 @@ impl UnitRecord {
             nominated: self.nominated,
             n,
             pc,
-            step_down: self.step_down,
-            step_up: self.step_up,
+            step_down,
+            step_up,
             made: self.made,
             kind,
             lower,

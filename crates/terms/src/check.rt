@@ -82,7 +82,7 @@ pub fn ordered(low: i32, high: i32, fault: Fault) -> Checked
     Checked::Fine
 }
 
-// A unit's margins: 8 for each, then 9.
+// Its margins: 8 for each, then 9.
 fn margins(m: Margins) -> Checked
     ensures { λ r. ⌜ r ≡ marginChecks m ⌝ }
 {
@@ -97,7 +97,7 @@ fn margins(m: Margins) -> Checked
     ordered(m.step_down, m.step_up, Fault::Crossed)
 }
 
-// A unit's quantities: 8 for each in turn, then 9.
+// The quantities of a unit given as columns: 8 for each in turn, then 9.
 pub fn amounts(n: Nomination, pc: Position, m: Margins) -> Checked
     ensures { λ r. ⌜ r ≡ amountChecks (n .0) (pc .0) m ⌝ }
 {
