@@ -1,6 +1,6 @@
 -- The units of a block one after another are a reading by steps, which the first refusal ends; what is at fault lies within the record.
 use Prim.Native.Nat.{ℕ, _+_, _<_}
-use mathlib.Core.Path.{_≡_, refl}
+use mathlib.Core.Path.{refl}
 use mathlib.Core.Bool.{Bool, true, false}
 use mathlib.Core.List.{List}
 use native.Mathlib.Omega.{arith}
@@ -12,7 +12,7 @@ use Rattle.terms.specs.Reply.{Reply}
 use Rattle.terms.specs.Refusals.{check}
 use Rattle.terms.specs.declared.refusal.Fault.{Fault}
 use Rattle.terms.specs.declared.refusal.Fault.the-variants as F
-use Rattle.terms.specs.declared.refusal.Checked.the-variants.{Fine, Faulty}
+use Rattle.terms.specs.declared.refusal.Checked.the-variants.{Fine}
 use Rattle.terms.proofs.FirstRefused.{Steps}
 use Rattle.records.specs.declared.day.DayRecord.{DayRecord}
 use Rattle.records.specs.declared.unit.UnitRecord.{UnitRecord}

@@ -1,7 +1,7 @@
 -- Each turn takes in one unit more and adds its PC; a unit that is not whole or does not pass ends the reading.
-use Prim.Native.Nat.{ℕ, _+_, _-_, _≤_, _<_}
+use Prim.Native.Nat.{_+_, _-_, _≤_, _<_}
 use mathlib.Core.Path.{_≡_, refl, sym, ap, _∙_}
-use mathlib.Core.Bool.{Bool, true, false}
+use mathlib.Core.Bool.{false}
 use native.Mathlib.Omega.{arith}
 use borrow.Author.Needs.{needs}
 use borrow.Author.Tests.{not-true, not-false}
@@ -15,7 +15,7 @@ use Rattle.numbers.specs.Sum.{sumZ}
 use Rattle.records.specs.Decoding.{pcIn}
 use Rattle.records.specs.declared.unit.UnitRecord.{UnitRecord}
 use Rattle.records.specs.Layouts.{unitKind, intervalKind, unitLength, intervalLength, lengthOf}
-use Rattle.records.specs.Inner.{isPlain, isInterval}
+use Rattle.records.specs.Inner.{isPlain}
 use Rattle.records.proofs.Heads.{whole-headed}
 use Rattle.records.proofs.UnitHeads.{plain-body, plain-whole, interval-body, interval-whole}
 use Rattle.blocks.specs.declared.decode.Reading.{Reading}
@@ -55,40 +55,79 @@ is-plain-requires : tie.Need-is-plain-requires Inv-loop μ-loop Inv-loop3 μ-loo
 is-plain-requires c κs = search needs
 
 body-fields-requires : tie.Need-body-fields-requires Inv-loop μ-loop Inv-loop3 μ-loop3 Inv-loop2 μ-loop2
-body-fields-requires c κs = whole-headed (now (c .before .before .before .before .before .before .before .args .s)) (c .before .before .before .loop .here) unitKind unitLength (sym (c .before .is-plain .ensures) ∙ c .if1 .taken) .long
+body-fields-requires c κs =
+    let s = c .before .before .before .before .before .before .before in
+    let kind = c .before in
+    let v = kind .before .before .loop in
+    let there = sym (kind .is-plain .ensures) ∙ c .if1 .taken in
+    whole-headed (now (s .args .s)) (v .here) unitKind unitLength there .long
 
 take-in-requires : tie.Need-take-in-requires Inv-loop μ-loop Inv-loop3 μ-loop3 Inv-loop2 μ-loop2
-take-in-requires c κs = room _ _ (c .before .before .before .before .before .before .before .before .before .loop .inv) (c .before .before .before .before .before .before .before .before .loop-test .taken)
+take-in-requires c κs =
+    let test = c .before .before .before .before .before .before .before .before in
+    room _ _ (test .before .loop .inv) (test .loop-test .taken)
 
 broken-off-requires : tie.Need-broken-off-requires Inv-loop μ-loop Inv-loop3 μ-loop3 Inv-loop2 μ-loop2
 broken-off-requires c κs = search needs
 
 same-length : tie.Need-same-length Inv-loop μ-loop Inv-loop3 μ-loop3 Inv-loop2 μ-loop2
-same-length c = c .before .before .before .before .before .before .before .before .before .take-in .kept .1 .1 .1 .0 ∙ c .before .before .before .before .before .before .before .before .before .before .before .before .before .before .before .before .before .before .before .loop .inv .classes .long ∙ sym (c .before .before .before .before .before .before .before .before .before .before .before .before .before .before .before .before .before .before .before .before .before .before .before .pre .1 .classes)
+same-length c =
+    let taken = c .before .before .before .before .before .before .before .before .before in
+    let loop = taken .before .before .before .before .before .before .before .before .before .before in
+    taken .take-in .kept .1 .1 .1 .0 ∙ loop .loop .inv .classes .long ∙ sym (loop .before .before .before .before .pre .1 .classes)
 
 same-length-2 : tie.Need-same-length-2 Inv-loop μ-loop Inv-loop3 μ-loop3 Inv-loop2 μ-loop2
-same-length-2 c = c .before .before .before .before .before .before .before .before .before .take-in .kept .1 .1 .1 .1 .0 ∙ c .before .before .before .before .before .before .before .before .before .before .before .before .before .before .before .before .before .before .before .loop .inv .marks .long ∙ sym (c .before .before .before .before .before .before .before .before .before .before .before .before .before .before .before .before .before .before .before .before .before .before .before .pre .1 .marks)
+same-length-2 c =
+    let taken = c .before .before .before .before .before .before .before .before .before in
+    let loop = taken .before .before .before .before .before .before .before .before .before .before in
+    taken .take-in .kept .1 .1 .1 .1 .0 ∙ loop .loop .inv .marks .long ∙ sym (loop .before .before .before .before .pre .1 .marks)
 
 same-length-3 : tie.Need-same-length-3 Inv-loop μ-loop Inv-loop3 μ-loop3 Inv-loop2 μ-loop2
-same-length-3 c = c .before .before .before .before .before .before .before .before .before .take-in .kept .1 .1 .1 .1 .1 .0 ∙ c .before .before .before .before .before .before .before .before .before .before .before .before .before .before .before .before .before .before .before .loop .inv .starts .long ∙ sym (c .before .before .before .before .before .before .before .before .before .before .before .before .before .before .before .before .before .before .before .before .before .before .before .pre .1 .starts)
+same-length-3 c =
+    let taken = c .before .before .before .before .before .before .before .before .before in
+    let loop = taken .before .before .before .before .before .before .before .before .before .before in
+    taken .take-in .kept .1 .1 .1 .1 .1 .0 ∙ loop .loop .inv .starts .long ∙ sym (loop .before .before .before .before .pre .1 .starts)
 
 same-length-4 : tie.Need-same-length-4 Inv-loop μ-loop Inv-loop3 μ-loop3 Inv-loop2 μ-loop2
-same-length-4 c = c .before .before .before .before .before .before .before .before .before .take-in .kept .1 .1 .1 .1 .1 .1 .0 ∙ c .before .before .before .before .before .before .before .before .before .before .before .before .before .before .before .before .before .before .before .loop .inv .downs .long ∙ sym (c .before .before .before .before .before .before .before .before .before .before .before .before .before .before .before .before .before .before .before .before .before .before .before .pre .1 .downs)
+same-length-4 c =
+    let taken = c .before .before .before .before .before .before .before .before .before in
+    let loop = taken .before .before .before .before .before .before .before .before .before .before in
+    taken .take-in .kept .1 .1 .1 .1 .1 .1 .0 ∙ loop .loop .inv .downs .long ∙ sym (loop .before .before .before .before .pre .1 .downs)
 
 same-length-5 : tie.Need-same-length-5 Inv-loop μ-loop Inv-loop3 μ-loop3 Inv-loop2 μ-loop2
-same-length-5 c = c .before .before .before .before .before .before .before .before .before .take-in .kept .1 .1 .1 .1 .1 .1 .1 .0 ∙ c .before .before .before .before .before .before .before .before .before .before .before .before .before .before .before .before .before .before .before .loop .inv .ups .long ∙ sym (c .before .before .before .before .before .before .before .before .before .before .before .before .before .before .before .before .before .before .before .before .before .before .before .pre .1 .ups)
+same-length-5 c =
+    let taken = c .before .before .before .before .before .before .before .before .before in
+    let loop = taken .before .before .before .before .before .before .before .before .before .before in
+    taken .take-in .kept .1 .1 .1 .1 .1 .1 .1 .0 ∙ loop .loop .inv .ups .long ∙ sym (loop .before .before .before .before .pre .1 .ups)
 
 returns : tie.Need-returns Inv-loop μ-loop Inv-loop3 μ-loop3 Inv-loop2 μ-loop2
 returns c =
-    let told = ap (λ (r : Reading). r .whole) (c .broken-off .ensures) in
-    broken _ _ told (not-marked _ _ (c .before .before .before .before .before .before .before .before .before .before .before .before .before .before .before .before .before .before .before .loop .inv) (below _ _ (c .before .before .before .before .before .before .before .before .before .before .before .before .before .before .before .before .before .before .before .loop .inv) (c .before .before .before .before .before .before .before .before .before .before .before .before .before .before .before .before .before .before .loop-test .taken)) (plain-body _ _ (sym (c .before .before .before .before .before .before .before .before .before .before .before .before .before .before .before .before .before .is-plain .ensures) ∙ c .before .before .before .before .before .before .before .before .before .before .before .before .before .before .before .before .if1 .taken) ∙ sym (c .before .before .before .before .before .before .before .before .before .before .before .before .before .before .before .body-fields .ensures)) (sym (c .before .before .before .before .before .before .before .before .before .take-in .ensures .told) ∙ not-true _ (c .before .if2 .taken)))
+    let taken = c .before .before .before .before .before .before .before .before .before in
+    let unit = taken .before .before .before .before .before .before in
+    let s = unit .before .before .before .before .before .before .before .before in
+    let kind = unit .before .before in
+    let v = kind .before .before .loop in
+    let g = v .inv in
+    let l = below _ _ g (kind .before .loop-test .taken) in
+    let there = sym (kind .is-plain .ensures) ∙ unit .before .if1 .taken in
+    let same = plain-body (now (s .args .s)) (v .here) there ∙ sym (unit .body-fields .ensures) in
+    let fails = sym (taken .take-in .ensures .told) ∙ not-true _ (c .before .if2 .taken) in
+    broken _ _ (ap (λ (r : Reading). r .whole) (c .broken-off .ensures)) (not-marked _ _ g l same fails)
 
 add-p : tie.Need-add-p Inv-loop μ-loop Inv-loop3 μ-loop3 Inv-loop2 μ-loop2
 add-p c =
-    let g = c .before .before .before .before .before .before .before .before .before .before .before .before .before .before .before .before .before .before .before .before .loop .inv in
-    let l = below _ _ (c .before .before .before .before .before .before .before .before .before .before .before .before .before .before .before .before .before .before .before .before .loop .inv) (c .before .before .before .before .before .before .before .before .before .before .before .before .before .before .before .before .before .before .before .loop-test .taken) in
-    let there = sym (c .before .before .before .before .before .before .before .before .before .before .before .before .before .before .before .before .before .before .is-plain .ensures) ∙ c .before .before .before .before .before .before .before .before .before .before .before .before .before .before .before .before .before .if1 .taken in
-    let w = small _ _ g l (plain-body (now (c .before .before .before .before .before .before .before .before .before .before .before .before .before .before .before .before .before .before .before .before .before .before .before .before .args .s)) (c .before .before .before .before .before .before .before .before .before .before .before .before .before .before .before .before .before .before .before .before .loop .here) there ∙ sym (c .before .before .before .before .before .before .before .before .before .before .before .before .before .before .before .before .body-fields .ensures)) (plain-whole (now (c .before .before .before .before .before .before .before .before .before .before .before .before .before .before .before .before .before .before .before .before .before .before .before .before .args .s)) (c .before .before .before .before .before .before .before .before .before .before .before .before .before .before .before .before .before .before .before .before .loop .here) there) (c .before .before .before .before .before .before .before .before .before .before .take-in .ensures) (not-false _ (c .before .before .if2 .left)) in
+    let taken = c .before .before .before .before .before .before .before .before .before .before in
+    let unit = taken .before .before .before .before .before .before in
+    let s = unit .before .before .before .before .before .before .before .before in
+    let kind = unit .before .before in
+    let v = kind .before .before .loop in
+    let g = v .inv in
+    let l = below _ _ g (kind .before .loop-test .taken) in
+    let there = sym (kind .is-plain .ensures) ∙ unit .before .if1 .taken in
+    let same = plain-body (now (s .args .s)) (v .here) there ∙ sym (unit .body-fields .ensures) in
+    let whole = plain-whole (now (s .args .s)) (v .here) there in
+    let yes = not-false _ (c .before .before .if2 .left) in
+    let w = small _ _ g l same whole (taken .take-in .ensures) yes in
     rw (added-back (g .sold) (upto _ _ g), back _ w) (added-fits (g .sold) (upto _ _ g) _ w (omega (arith, l, g .begun .few)))
 
 cast-floor : tie.Need-cast-floor Inv-loop μ-loop Inv-loop3 μ-loop3 Inv-loop2 μ-loop2
@@ -99,26 +138,43 @@ add-floor c = search needs
 
 add-here : tie.Need-add-here Inv-loop μ-loop Inv-loop3 μ-loop3 Inv-loop2 μ-loop2
 add-here c =
-    let s = c .before .before .before .before .before .before .before .before .before .before .before .before .before .before .before .before .before .before .before .before .before .before .before .before .before in
-    omega (arith, whole-headed (now (s .args .s)) (c .before .before .before .before .before .before .before .before .before .before .before .before .before .before .before .before .before .before .before .before .before .loop .here) unitKind unitLength (sym (c .before .before .before .before .before .before .before .before .before .before .before .before .before .before .before .before .before .before .before .is-plain .ensures) ∙ c .before .before .before .before .before .before .before .before .before .before .before .before .before .before .before .before .before .before .if1 .taken) .long, s .good .0)
+    let taken = c .before .before .before .before .before .before .before .before .before .before .before in
+    let unit = taken .before .before .before .before .before .before in
+    let s = unit .before .before .before .before .before .before .before .before in
+    let kind = unit .before .before in
+    let v = kind .before .before .loop in
+    let there = sym (kind .is-plain .ensures) ∙ unit .before .if1 .taken in
+    omega (arith, whole-headed (now (s .args .s)) (v .here) unitKind unitLength there .long, s .good .0)
 
 add-i : tie.Need-add-i Inv-loop μ-loop Inv-loop3 μ-loop3 Inv-loop2 μ-loop2
 add-i c =
-    let g = c .before .before .before .before .before .before .before .before .before .before .before .before .before .before .before .before .before .before .before .before .before .loop .inv in
-    omega (arith, below _ _ (c .before .before .before .before .before .before .before .before .before .before .before .before .before .before .before .before .before .before .before .before .before .loop .inv) (c .before .before .before .before .before .before .before .before .before .before .before .before .before .before .before .before .before .before .before .before .loop-test .taken), g .begun .few)
+    let test = c .before .before .before .before .before .before .before .before .before .before .before .before .before .before .before .before .before .before .before .before in
+    let g = test .before .loop .inv in
+    omega (arith, below _ _ g (test .loop-test .taken), g .begun .few)
 
 loop-less : tie.Need-loop-less Inv-loop μ-loop Inv-loop3 μ-loop3 Inv-loop2 μ-loop2
-loop-less c = omega (arith, below _ _ (c .before .before .before .before .before .before .before .before .before .before .before .before .before .before .before .before .before .before .before .before .before .loop .inv) (c .before .before .before .before .before .before .before .before .before .before .before .before .before .before .before .before .before .before .before .before .loop-test .taken))
+loop-less c =
+    let test = c .before .before .before .before .before .before .before .before .before .before .before .before .before .before .before .before .before .before .before .before in
+    omega (arith, below _ _ (test .before .loop .inv) (test .loop-test .taken))
 
 loop-again : tie.Need-loop-again Inv-loop μ-loop Inv-loop3 μ-loop3 Inv-loop2 μ-loop2
 loop-again c =
-    let g = c .before .before .before .before .before .before .before .before .before .before .before .before .before .before .before .before .before .before .before .before .before .loop .inv in
-    let l = below _ _ (c .before .before .before .before .before .before .before .before .before .before .before .before .before .before .before .before .before .before .before .before .before .loop .inv) (c .before .before .before .before .before .before .before .before .before .before .before .before .before .before .before .before .before .before .before .before .loop-test .taken) in
-    let there = sym (c .before .before .before .before .before .before .before .before .before .before .before .before .before .before .before .before .before .before .before .is-plain .ensures) ∙ c .before .before .before .before .before .before .before .before .before .before .before .before .before .before .before .before .before .before .if1 .taken in
-    let w = small _ _ g l (plain-body (now (c .before .before .before .before .before .before .before .before .before .before .before .before .before .before .before .before .before .before .before .before .before .before .before .before .before .args .s)) (c .before .before .before .before .before .before .before .before .before .before .before .before .before .before .before .before .before .before .before .before .before .loop .here) there ∙ sym (c .before .before .before .before .before .before .before .before .before .before .before .before .before .before .before .before .before .body-fields .ensures)) (plain-whole (now (c .before .before .before .before .before .before .before .before .before .before .before .before .before .before .before .before .before .before .before .before .before .before .before .before .before .args .s)) (c .before .before .before .before .before .before .before .before .before .before .before .before .before .before .before .before .before .before .before .before .before .loop .here) there) (c .before .before .before .before .before .before .before .before .before .before .before .take-in .ensures) (not-false _ (c .before .before .before .if2 .left)) in
-    let q : ofZ w32 (toZ w32 (c .before .before .before .before .before .before .before .before .before .before .before .before .before .before .before .before .before .before .before .before .before .loop .p) +ℤ toZ w32 (ofZ w32 (c .before .before .before .before .before .before .before .before .before .before .before .before .before .before .before .before .before .body-fields .result .pc .0))) ≡ ofZ w32 (sumZ (pcIn (now (c .before .before .before .before .before .before .before .before .before .before .before .before .before .before .before .before .before .before .before .before .before .before .before .before .before .args .s)) (c .before .before .before .before .before .before .before .before .before .before .before .before .before .before .before .before .before .before .before .before .before .loop .i)) +ℤ c .before .before .before .before .before .before .before .before .before .before .before .before .before .before .before .before .before .body-fields .result .pc .0) = rw (added-back (g .sold) (upto _ _ g), back _ w) in
-    let next = turn _ _ g l (plain-body (now (c .before .before .before .before .before .before .before .before .before .before .before .before .before .before .before .before .before .before .before .before .before .before .before .before .before .args .s)) (c .before .before .before .before .before .before .before .before .before .before .before .before .before .before .before .before .before .before .before .before .before .loop .here) there ∙ sym (c .before .before .before .before .before .before .before .before .before .before .before .before .before .before .before .before .before .body-fields .ensures)) (plain-whole (now (c .before .before .before .before .before .before .before .before .before .before .before .before .before .before .before .before .before .before .before .before .before .before .before .before .before .args .s)) (c .before .before .before .before .before .before .before .before .before .before .before .before .before .before .before .before .before .before .before .before .before .loop .here) there) (c .before .before .before .before .before .before .before .before .before .before .before .take-in .ensures) (not-false _ (c .before .before .before .if2 .left)) (sym (ap (λ (u : UnitRecord). c .before .before .before .before .before .before .before .before .before .before .before .before .before .before .before .before .before .before .before .before .before .loop .here + lengthOf u) (plain-body (now (c .before .before .before .before .before .before .before .before .before .before .before .before .before .before .before .before .before .before .before .before .before .before .before .before .before .args .s)) (c .before .before .before .before .before .before .before .before .before .before .before .before .before .before .before .before .before .before .before .before .before .loop .here) there))) refl q in
-    next
+    let taken = c .before .before .before .before .before .before .before .before .before .before .before in
+    let unit = taken .before .before .before .before .before .before in
+    let s = unit .before .before .before .before .before .before .before .before in
+    let kind = unit .before .before in
+    let v = kind .before .before .loop in
+    let g = v .inv in
+    let l = below _ _ g (kind .before .loop-test .taken) in
+    let there = sym (kind .is-plain .ensures) ∙ unit .before .if1 .taken in
+    let same = plain-body (now (s .args .s)) (v .here) there ∙ sym (unit .body-fields .ensures) in
+    let whole = plain-whole (now (s .args .s)) (v .here) there in
+    let yes = not-false _ (c .before .before .before .if2 .left) in
+    let w = small _ _ g l same whole (taken .take-in .ensures) yes in
+    let end = sym (ap (λ (u : UnitRecord). v .here + lengthOf u) (plain-body (now (s .args .s)) (v .here) there)) in
+    let sold : ofZ w32 (toZ w32 (v .p) +ℤ toZ w32 (ofZ w32 (unit .body-fields .result .pc .0))) ≡ ofZ w32 (sumZ (pcIn (now (s .args .s)) (v .i)) +ℤ unit .body-fields .result .pc .0) =
+    rw (added-back (g .sold) (upto _ _ g), back _ w) in
+    turn _ _ g l same whole (taken .take-in .ensures) yes end refl sold
 
 loop2-holds : tie.Need-loop2-holds Inv-loop μ-loop Inv-loop3 μ-loop3 Inv-loop2 μ-loop2
 loop2-holds c =
@@ -151,44 +207,87 @@ same-length-10 c = c .before .before .before .before .loop2 .inv .0 .ups .long �
 
 returns-2 : tie.Need-returns-2 Inv-loop μ-loop Inv-loop3 μ-loop3 Inv-loop2 μ-loop2
 returns-2 c =
-    let told = ap (λ (r : Reading). r .whole) (c .broken-off2 .ensures) in
-    broken _ _ told (not-there _ _ (c .before .before .before .before .loop2 .inv .0) (below _ _ (c .before .before .before .before .loop2 .inv .0) (c .before .before .before .loop2-test .taken)) (c .before .before .before .before .loop2 .inv .1 (c .before .before .before .loop2-test .taken)) (sym (c .before .before .is-interval .ensures) ∙ not-true _ (c .before .if3 .taken)))
+    let kind = c .before .before in
+    let test = kind .before in
+    let v = test .before .loop2 in
+    let fails = sym (kind .is-interval .ensures) ∙ not-true _ (c .before .if3 .taken) in
+    let none = not-there _ _ (v .inv .0) (below _ _ (v .inv .0) (test .loop2-test .taken)) (v .inv .1 (test .loop2-test .taken)) fails in
+    broken _ _ (ap (λ (r : Reading). r .whole) (c .broken-off2 .ensures)) none
 
 interval-fields-requires : tie.Need-interval-fields-requires Inv-loop μ-loop Inv-loop3 μ-loop3 Inv-loop2 μ-loop2
-interval-fields-requires c κs = whole-headed (now (c .before .before .before .before .before .before .before .before .before .args .s)) (c .before .before .before .loop2 .here) intervalKind intervalLength (sym (c .before .is-interval .ensures) ∙ not-false _ (c .if3 .left)) .long
+interval-fields-requires c κs =
+    let s = c .before .before .before .before .before .before .before .before .before in
+    let kind = c .before in
+    let v = kind .before .before .loop2 in
+    let there = sym (kind .is-interval .ensures) ∙ not-false _ (c .if3 .left) in
+    whole-headed (now (s .args .s)) (v .here) intervalKind intervalLength there .long
 
 take-in-requires-2 : tie.Need-take-in-requires-2 Inv-loop μ-loop Inv-loop3 μ-loop3 Inv-loop2 μ-loop2
-take-in-requires-2 c κs = room _ _ (c .before .before .before .before .before .before .before .before .before .loop2 .inv .0) (c .before .before .before .before .before .before .before .before .loop2-test .taken)
+take-in-requires-2 c κs =
+    let test = c .before .before .before .before .before .before .before .before in
+    room _ _ (test .before .loop2 .inv .0) (test .loop2-test .taken)
 
 broken-off-requires-3 : tie.Need-broken-off-requires-3 Inv-loop μ-loop Inv-loop3 μ-loop3 Inv-loop2 μ-loop2
 broken-off-requires-3 c κs = search needs
 
 same-length-11 : tie.Need-same-length-11 Inv-loop μ-loop Inv-loop3 μ-loop3 Inv-loop2 μ-loop2
-same-length-11 c = c .before .before .before .before .before .before .before .before .before .take-in2 .kept .1 .1 .1 .0 ∙ c .before .before .before .before .before .before .before .before .before .before .before .before .before .before .before .before .before .before .before .loop2 .inv .0 .classes .long ∙ sym (c .before .before .before .before .before .before .before .before .before .before .before .before .before .before .before .before .before .before .before .before .before .before .before .before .before .pre .1 .classes)
+same-length-11 c =
+    let taken = c .before .before .before .before .before .before .before .before .before in
+    let loop = taken .before .before .before .before .before .before .before .before .before .before in
+    taken .take-in2 .kept .1 .1 .1 .0 ∙ loop .loop2 .inv .0 .classes .long ∙ sym (loop .before .before .before .before .before .before .pre .1 .classes)
 
 same-length-12 : tie.Need-same-length-12 Inv-loop μ-loop Inv-loop3 μ-loop3 Inv-loop2 μ-loop2
-same-length-12 c = c .before .before .before .before .before .before .before .before .before .take-in2 .kept .1 .1 .1 .1 .0 ∙ c .before .before .before .before .before .before .before .before .before .before .before .before .before .before .before .before .before .before .before .loop2 .inv .0 .marks .long ∙ sym (c .before .before .before .before .before .before .before .before .before .before .before .before .before .before .before .before .before .before .before .before .before .before .before .before .before .pre .1 .marks)
+same-length-12 c =
+    let taken = c .before .before .before .before .before .before .before .before .before in
+    let loop = taken .before .before .before .before .before .before .before .before .before .before in
+    taken .take-in2 .kept .1 .1 .1 .1 .0 ∙ loop .loop2 .inv .0 .marks .long ∙ sym (loop .before .before .before .before .before .before .pre .1 .marks)
 
 same-length-13 : tie.Need-same-length-13 Inv-loop μ-loop Inv-loop3 μ-loop3 Inv-loop2 μ-loop2
-same-length-13 c = c .before .before .before .before .before .before .before .before .before .take-in2 .kept .1 .1 .1 .1 .1 .0 ∙ c .before .before .before .before .before .before .before .before .before .before .before .before .before .before .before .before .before .before .before .loop2 .inv .0 .starts .long ∙ sym (c .before .before .before .before .before .before .before .before .before .before .before .before .before .before .before .before .before .before .before .before .before .before .before .before .before .pre .1 .starts)
+same-length-13 c =
+    let taken = c .before .before .before .before .before .before .before .before .before in
+    let loop = taken .before .before .before .before .before .before .before .before .before .before in
+    taken .take-in2 .kept .1 .1 .1 .1 .1 .0 ∙ loop .loop2 .inv .0 .starts .long ∙ sym (loop .before .before .before .before .before .before .pre .1 .starts)
 
 same-length-14 : tie.Need-same-length-14 Inv-loop μ-loop Inv-loop3 μ-loop3 Inv-loop2 μ-loop2
-same-length-14 c = c .before .before .before .before .before .before .before .before .before .take-in2 .kept .1 .1 .1 .1 .1 .1 .0 ∙ c .before .before .before .before .before .before .before .before .before .before .before .before .before .before .before .before .before .before .before .loop2 .inv .0 .downs .long ∙ sym (c .before .before .before .before .before .before .before .before .before .before .before .before .before .before .before .before .before .before .before .before .before .before .before .before .before .pre .1 .downs)
+same-length-14 c =
+    let taken = c .before .before .before .before .before .before .before .before .before in
+    let loop = taken .before .before .before .before .before .before .before .before .before .before in
+    taken .take-in2 .kept .1 .1 .1 .1 .1 .1 .0 ∙ loop .loop2 .inv .0 .downs .long ∙ sym (loop .before .before .before .before .before .before .pre .1 .downs)
 
 same-length-15 : tie.Need-same-length-15 Inv-loop μ-loop Inv-loop3 μ-loop3 Inv-loop2 μ-loop2
-same-length-15 c = c .before .before .before .before .before .before .before .before .before .take-in2 .kept .1 .1 .1 .1 .1 .1 .1 .0 ∙ c .before .before .before .before .before .before .before .before .before .before .before .before .before .before .before .before .before .before .before .loop2 .inv .0 .ups .long ∙ sym (c .before .before .before .before .before .before .before .before .before .before .before .before .before .before .before .before .before .before .before .before .before .before .before .before .before .pre .1 .ups)
+same-length-15 c =
+    let taken = c .before .before .before .before .before .before .before .before .before in
+    let loop = taken .before .before .before .before .before .before .before .before .before .before in
+    taken .take-in2 .kept .1 .1 .1 .1 .1 .1 .1 .0 ∙ loop .loop2 .inv .0 .ups .long ∙ sym (loop .before .before .before .before .before .before .pre .1 .ups)
 
 returns-3 : tie.Need-returns-3 Inv-loop μ-loop Inv-loop3 μ-loop3 Inv-loop2 μ-loop2
 returns-3 c =
-    let told = ap (λ (r : Reading). r .whole) (c .broken-off3 .ensures) in
-    broken _ _ told (not-marked _ _ (c .before .before .before .before .before .before .before .before .before .before .before .before .before .before .before .before .before .before .before .loop2 .inv .0) (below _ _ (c .before .before .before .before .before .before .before .before .before .before .before .before .before .before .before .before .before .before .before .loop2 .inv .0) (c .before .before .before .before .before .before .before .before .before .before .before .before .before .before .before .before .before .before .loop2-test .taken)) (interval-body _ _ (sym (c .before .before .before .before .before .before .before .before .before .before .before .before .before .before .before .before .before .is-interval .ensures) ∙ not-false _ (c .before .before .before .before .before .before .before .before .before .before .before .before .before .before .before .before .if3 .left)) ∙ sym (c .before .before .before .before .before .before .before .before .before .before .before .before .before .before .before .interval-fields .ensures)) (sym (c .before .before .before .before .before .before .before .before .before .take-in2 .ensures .told) ∙ not-true _ (c .before .if4 .taken)))
+    let taken = c .before .before .before .before .before .before .before .before .before in
+    let unit = taken .before .before .before .before .before .before in
+    let s = unit .before .before .before .before .before .before .before .before .before .before in
+    let kind = unit .before .before in
+    let v = kind .before .before .loop2 in
+    let g = v .inv .0 in
+    let l = below _ _ g (kind .before .loop2-test .taken) in
+    let there = sym (kind .is-interval .ensures) ∙ not-false _ (unit .before .if3 .left) in
+    let same = interval-body (now (s .args .s)) (v .here) there ∙ sym (unit .interval-fields .ensures) in
+    let fails = sym (taken .take-in2 .ensures .told) ∙ not-true _ (c .before .if4 .taken) in
+    broken _ _ (ap (λ (r : Reading). r .whole) (c .broken-off3 .ensures)) (not-marked _ _ g l same fails)
 
 add-p-2 : tie.Need-add-p-2 Inv-loop μ-loop Inv-loop3 μ-loop3 Inv-loop2 μ-loop2
 add-p-2 c =
-    let g = c .before .before .before .before .before .before .before .before .before .before .before .before .before .before .before .before .before .before .before .before .loop2 .inv .0 in
-    let l = below _ _ (c .before .before .before .before .before .before .before .before .before .before .before .before .before .before .before .before .before .before .before .before .loop2 .inv .0) (c .before .before .before .before .before .before .before .before .before .before .before .before .before .before .before .before .before .before .before .loop2-test .taken) in
-    let there = sym (c .before .before .before .before .before .before .before .before .before .before .before .before .before .before .before .before .before .before .is-interval .ensures) ∙ not-false _ (c .before .before .before .before .before .before .before .before .before .before .before .before .before .before .before .before .before .if3 .left) in
-    let w = small _ _ g l (interval-body (now (c .before .before .before .before .before .before .before .before .before .before .before .before .before .before .before .before .before .before .before .before .before .before .before .before .before .before .args .s)) (c .before .before .before .before .before .before .before .before .before .before .before .before .before .before .before .before .before .before .before .before .loop2 .here) there ∙ sym (c .before .before .before .before .before .before .before .before .before .before .before .before .before .before .before .before .interval-fields .ensures)) (interval-whole (now (c .before .before .before .before .before .before .before .before .before .before .before .before .before .before .before .before .before .before .before .before .before .before .before .before .before .before .args .s)) (c .before .before .before .before .before .before .before .before .before .before .before .before .before .before .before .before .before .before .before .before .loop2 .here) there) (c .before .before .before .before .before .before .before .before .before .before .take-in2 .ensures) (not-false _ (c .before .before .if4 .left)) in
+    let taken = c .before .before .before .before .before .before .before .before .before .before in
+    let unit = taken .before .before .before .before .before .before in
+    let s = unit .before .before .before .before .before .before .before .before .before .before in
+    let kind = unit .before .before in
+    let v = kind .before .before .loop2 in
+    let g = v .inv .0 in
+    let l = below _ _ g (kind .before .loop2-test .taken) in
+    let there = sym (kind .is-interval .ensures) ∙ not-false _ (unit .before .if3 .left) in
+    let same = interval-body (now (s .args .s)) (v .here) there ∙ sym (unit .interval-fields .ensures) in
+    let whole = interval-whole (now (s .args .s)) (v .here) there in
+    let yes = not-false _ (c .before .before .if4 .left) in
+    let w = small _ _ g l same whole (taken .take-in2 .ensures) yes in
     rw (added-back (g .sold) (upto _ _ g), back _ w) (added-fits (g .sold) (upto _ _ g) _ w (omega (arith, l, g .begun .few)))
 
 cast-floor-2 : tie.Need-cast-floor-2 Inv-loop μ-loop Inv-loop3 μ-loop3 Inv-loop2 μ-loop2
@@ -199,74 +298,134 @@ add-floor-2 c = search needs
 
 add-here-2 : tie.Need-add-here-2 Inv-loop μ-loop Inv-loop3 μ-loop3 Inv-loop2 μ-loop2
 add-here-2 c =
-    let s = c .before .before .before .before .before .before .before .before .before .before .before .before .before .before .before .before .before .before .before .before .before .before .before .before .before .before .before in
-    omega (arith, whole-headed (now (s .args .s)) (c .before .before .before .before .before .before .before .before .before .before .before .before .before .before .before .before .before .before .before .before .before .loop2 .here) intervalKind intervalLength (sym (c .before .before .before .before .before .before .before .before .before .before .before .before .before .before .before .before .before .before .before .is-interval .ensures) ∙ not-false _ (c .before .before .before .before .before .before .before .before .before .before .before .before .before .before .before .before .before .before .if3 .left)) .long, s .good .0)
+    let taken = c .before .before .before .before .before .before .before .before .before .before .before in
+    let unit = taken .before .before .before .before .before .before in
+    let s = unit .before .before .before .before .before .before .before .before .before .before in
+    let kind = unit .before .before in
+    let v = kind .before .before .loop2 in
+    let there = sym (kind .is-interval .ensures) ∙ not-false _ (unit .before .if3 .left) in
+    omega (arith, whole-headed (now (s .args .s)) (v .here) intervalKind intervalLength there .long, s .good .0)
 
 add-i-2 : tie.Need-add-i-2 Inv-loop μ-loop Inv-loop3 μ-loop3 Inv-loop2 μ-loop2
 add-i-2 c =
-    let g = c .before .before .before .before .before .before .before .before .before .before .before .before .before .before .before .before .before .before .before .before .before .loop2 .inv .0 in
-    omega (arith, below _ _ (c .before .before .before .before .before .before .before .before .before .before .before .before .before .before .before .before .before .before .before .before .before .loop2 .inv .0) (c .before .before .before .before .before .before .before .before .before .before .before .before .before .before .before .before .before .before .before .before .loop2-test .taken), g .begun .few)
+    let test = c .before .before .before .before .before .before .before .before .before .before .before .before .before .before .before .before .before .before .before .before in
+    let g = test .before .loop2 .inv .0 in
+    omega (arith, below _ _ g (test .loop2-test .taken), g .begun .few)
 
 loop3-holds : tie.Need-loop3-holds Inv-loop μ-loop Inv-loop3 μ-loop3 Inv-loop2 μ-loop2
 loop3-holds c =
-    let g = c .before .before .before .before .before .before .before .before .before .before .before .before .before .before .before .before .before .before .before .before .before .loop2 .inv .0 in
-    let l = below _ _ (c .before .before .before .before .before .before .before .before .before .before .before .before .before .before .before .before .before .before .before .before .before .loop2 .inv .0) (c .before .before .before .before .before .before .before .before .before .before .before .before .before .before .before .before .before .before .before .before .loop2-test .taken) in
-    let there = sym (c .before .before .before .before .before .before .before .before .before .before .before .before .before .before .before .before .before .before .before .is-interval .ensures) ∙ not-false _ (c .before .before .before .before .before .before .before .before .before .before .before .before .before .before .before .before .before .before .if3 .left) in
-    let w = small _ _ g l (interval-body (now (c .before .before .before .before .before .before .before .before .before .before .before .before .before .before .before .before .before .before .before .before .before .before .before .before .before .before .before .args .s)) (c .before .before .before .before .before .before .before .before .before .before .before .before .before .before .before .before .before .before .before .before .before .loop2 .here) there ∙ sym (c .before .before .before .before .before .before .before .before .before .before .before .before .before .before .before .before .before .interval-fields .ensures)) (interval-whole (now (c .before .before .before .before .before .before .before .before .before .before .before .before .before .before .before .before .before .before .before .before .before .before .before .before .before .before .before .args .s)) (c .before .before .before .before .before .before .before .before .before .before .before .before .before .before .before .before .before .before .before .before .before .loop2 .here) there) (c .before .before .before .before .before .before .before .before .before .before .before .take-in2 .ensures) (not-false _ (c .before .before .before .if4 .left)) in
-    let q : ofZ w32 (toZ w32 (c .before .before .before .before .before .before .before .before .before .before .before .before .before .before .before .before .before .before .before .before .before .loop2 .p) +ℤ toZ w32 (ofZ w32 (c .before .before .before .before .before .before .before .before .before .before .before .before .before .before .before .before .before .interval-fields .result .pc .0))) ≡ ofZ w32 (sumZ (pcIn (now (c .before .before .before .before .before .before .before .before .before .before .before .before .before .before .before .before .before .before .before .before .before .before .before .before .before .before .before .args .s)) (c .before .before .before .before .before .before .before .before .before .before .before .before .before .before .before .before .before .before .before .before .before .loop2 .i)) +ℤ c .before .before .before .before .before .before .before .before .before .before .before .before .before .before .before .before .before .interval-fields .result .pc .0) = rw (added-back (g .sold) (upto _ _ g), back _ w) in
-    let next = turn _ _ g l (interval-body (now (c .before .before .before .before .before .before .before .before .before .before .before .before .before .before .before .before .before .before .before .before .before .before .before .before .before .before .before .args .s)) (c .before .before .before .before .before .before .before .before .before .before .before .before .before .before .before .before .before .before .before .before .before .loop2 .here) there ∙ sym (c .before .before .before .before .before .before .before .before .before .before .before .before .before .before .before .before .before .interval-fields .ensures)) (interval-whole (now (c .before .before .before .before .before .before .before .before .before .before .before .before .before .before .before .before .before .before .before .before .before .before .before .before .before .before .before .args .s)) (c .before .before .before .before .before .before .before .before .before .before .before .before .before .before .before .before .before .before .before .before .before .loop2 .here) there) (c .before .before .before .before .before .before .before .before .before .before .before .take-in2 .ensures) (not-false _ (c .before .before .before .if4 .left)) (sym (ap (λ (u : UnitRecord). c .before .before .before .before .before .before .before .before .before .before .before .before .before .before .before .before .before .before .before .before .before .loop2 .here + lengthOf u) (interval-body (now (c .before .before .before .before .before .before .before .before .before .before .before .before .before .before .before .before .before .before .before .before .before .before .before .before .before .before .before .args .s)) (c .before .before .before .before .before .before .before .before .before .before .before .before .before .before .before .before .before .before .before .before .before .loop2 .here) there))) refl q in
-    (next, omega arith)
+    let taken = c .before .before .before .before .before .before .before .before .before .before .before in
+    let unit = taken .before .before .before .before .before .before in
+    let s = unit .before .before .before .before .before .before .before .before .before .before in
+    let kind = unit .before .before in
+    let v = kind .before .before .loop2 in
+    let g = v .inv .0 in
+    let l = below _ _ g (kind .before .loop2-test .taken) in
+    let there = sym (kind .is-interval .ensures) ∙ not-false _ (unit .before .if3 .left) in
+    let same = interval-body (now (s .args .s)) (v .here) there ∙ sym (unit .interval-fields .ensures) in
+    let whole = interval-whole (now (s .args .s)) (v .here) there in
+    let yes = not-false _ (c .before .before .before .if4 .left) in
+    let w = small _ _ g l same whole (taken .take-in2 .ensures) yes in
+    let end = sym (ap (λ (u : UnitRecord). v .here + lengthOf u) (interval-body (now (s .args .s)) (v .here) there)) in
+    let sold : ofZ w32 (toZ w32 (v .p) +ℤ toZ w32 (ofZ w32 (unit .interval-fields .result .pc .0))) ≡ ofZ w32 (sumZ (pcIn (now (s .args .s)) (v .i)) +ℤ unit .interval-fields .result .pc .0) =
+    rw (added-back (g .sold) (upto _ _ g), back _ w) in
+    (turn _ _ g l same whole (taken .take-in2 .ensures) yes end refl sold, omega arith)
 
 is-plain-requires-2 : tie.Need-is-plain-requires-2 Inv-loop μ-loop Inv-loop3 μ-loop3 Inv-loop2 μ-loop2
 is-plain-requires-2 c κs = search needs
 
 loop2-less : tie.Need-loop2-less Inv-loop μ-loop Inv-loop3 μ-loop3 Inv-loop2 μ-loop2
-loop2-less c = omega (arith, c .before .before .before .loop3 .inv .1, c .before .before .before .loop3 .inv .0 .within, below _ _ (c .before .before .before .before .before .before .before .before .before .before .before .before .before .before .before .before .before .before .before .before .before .before .before .before .before .loop2 .inv .0) (c .before .before .before .before .before .before .before .before .before .before .before .before .before .before .before .before .before .before .before .before .before .before .before .before .loop2-test .taken))
+loop2-less c =
+    let v = c .before .before .before .loop3 in
+    let test = c .before .before .before .before .before .before .before .before .before .before .before .before .before .before .before .before .before .before .before .before .before .before .before .before in
+    omega (arith, v .inv .1, v .inv .0 .within, below _ _ (test .before .loop2 .inv .0) (test .loop2-test .taken))
 
 loop2-again : tie.Need-loop2-again Inv-loop μ-loop Inv-loop3 μ-loop3 Inv-loop2 μ-loop2
 loop2-again c = (c .before .before .before .loop3 .inv .0, λ l. sym (c .before .is-plain2 .ensures) ∙ c .if5 .left)
 
 loop2-less-2 : tie.Need-loop2-less-2 Inv-loop μ-loop Inv-loop3 μ-loop3 Inv-loop2 μ-loop2
-loop2-less-2 c = omega (arith, c .before .loop3 .inv .1, c .before .loop3 .inv .0 .within, below _ _ (c .before .before .before .before .before .before .before .before .before .before .before .before .before .before .before .before .before .before .before .before .before .before .before .loop2 .inv .0) (c .before .before .before .before .before .before .before .before .before .before .before .before .before .before .before .before .before .before .before .before .before .before .loop2-test .taken))
+loop2-less-2 c =
+    let v = c .before .loop3 in
+    let test = c .before .before .before .before .before .before .before .before .before .before .before .before .before .before .before .before .before .before .before .before .before .before in
+    omega (arith, v .inv .1, v .inv .0 .within, below _ _ (test .before .loop2 .inv .0) (test .loop2-test .taken))
 
 loop2-again-2 : tie.Need-loop2-again-2 Inv-loop μ-loop Inv-loop3 μ-loop3 Inv-loop2 μ-loop2
 loop2-again-2 c = (c .before .loop3 .inv .0, λ l. absurd (omega (arith, l, c .loop3-test .left)))
 
 body-fields-requires-2 : tie.Need-body-fields-requires-2 Inv-loop μ-loop Inv-loop3 μ-loop3 Inv-loop2 μ-loop2
-body-fields-requires-2 c κs = whole-headed (now (c .before .before .before .before .before .before .before .before .before .before .before .before .before .before .before .before .before .before .before .before .before .before .before .before .before .before .before .before .before .before .before .args .s)) (c .before .before .before .loop3 .here) unitKind unitLength (sym (c .before .is-plain2 .ensures) ∙ c .if5 .taken) .long
+body-fields-requires-2 c κs =
+    let s = c .before .before .before .before .before .before .before .before .before .before .before .before .before .before .before .before .before .before .before .before .before .before .before .before .before .before .before .before .before .before .before in
+    let kind = c .before in
+    let v = kind .before .before .loop3 in
+    let there = sym (kind .is-plain2 .ensures) ∙ c .if5 .taken in
+    whole-headed (now (s .args .s)) (v .here) unitKind unitLength there .long
 
 take-in-requires-3 : tie.Need-take-in-requires-3 Inv-loop μ-loop Inv-loop3 μ-loop3 Inv-loop2 μ-loop2
-take-in-requires-3 c κs = room _ _ (c .before .before .before .before .before .before .before .before .before .loop3 .inv .0) (c .before .before .before .before .before .before .before .before .loop3-test .taken)
+take-in-requires-3 c κs =
+    let test = c .before .before .before .before .before .before .before .before in
+    room _ _ (test .before .loop3 .inv .0) (test .loop3-test .taken)
 
 broken-off-requires-4 : tie.Need-broken-off-requires-4 Inv-loop μ-loop Inv-loop3 μ-loop3 Inv-loop2 μ-loop2
 broken-off-requires-4 c κs = search needs
 
 same-length-16 : tie.Need-same-length-16 Inv-loop μ-loop Inv-loop3 μ-loop3 Inv-loop2 μ-loop2
-same-length-16 c = c .before .before .before .before .before .before .before .before .before .take-in3 .kept .1 .1 .1 .0 ∙ c .before .before .before .before .before .before .before .before .before .before .before .before .before .before .before .before .before .before .before .loop3 .inv .0 .classes .long ∙ sym (c .before .before .before .before .before .before .before .before .before .before .before .before .before .before .before .before .before .before .before .before .before .before .before .before .before .before .before .before .before .before .before .before .before .before .before .before .before .before .before .before .before .before .before .before .before .before .before .pre .1 .classes)
+same-length-16 c =
+    let taken = c .before .before .before .before .before .before .before .before .before in
+    let loop = taken .before .before .before .before .before .before .before .before .before .before in
+    taken .take-in3 .kept .1 .1 .1 .0 ∙ loop .loop3 .inv .0 .classes .long ∙ sym (loop .before .before .before .before .before .before .before .before .before .before .before .before .before .before .before .before .before .before .before .before .before .before .before .before .before .before .before .before .pre .1 .classes)
 
 same-length-17 : tie.Need-same-length-17 Inv-loop μ-loop Inv-loop3 μ-loop3 Inv-loop2 μ-loop2
-same-length-17 c = c .before .before .before .before .before .before .before .before .before .take-in3 .kept .1 .1 .1 .1 .0 ∙ c .before .before .before .before .before .before .before .before .before .before .before .before .before .before .before .before .before .before .before .loop3 .inv .0 .marks .long ∙ sym (c .before .before .before .before .before .before .before .before .before .before .before .before .before .before .before .before .before .before .before .before .before .before .before .before .before .before .before .before .before .before .before .before .before .before .before .before .before .before .before .before .before .before .before .before .before .before .before .pre .1 .marks)
+same-length-17 c =
+    let taken = c .before .before .before .before .before .before .before .before .before in
+    let loop = taken .before .before .before .before .before .before .before .before .before .before in
+    taken .take-in3 .kept .1 .1 .1 .1 .0 ∙ loop .loop3 .inv .0 .marks .long ∙ sym (loop .before .before .before .before .before .before .before .before .before .before .before .before .before .before .before .before .before .before .before .before .before .before .before .before .before .before .before .before .pre .1 .marks)
 
 same-length-18 : tie.Need-same-length-18 Inv-loop μ-loop Inv-loop3 μ-loop3 Inv-loop2 μ-loop2
-same-length-18 c = c .before .before .before .before .before .before .before .before .before .take-in3 .kept .1 .1 .1 .1 .1 .0 ∙ c .before .before .before .before .before .before .before .before .before .before .before .before .before .before .before .before .before .before .before .loop3 .inv .0 .starts .long ∙ sym (c .before .before .before .before .before .before .before .before .before .before .before .before .before .before .before .before .before .before .before .before .before .before .before .before .before .before .before .before .before .before .before .before .before .before .before .before .before .before .before .before .before .before .before .before .before .before .before .pre .1 .starts)
+same-length-18 c =
+    let taken = c .before .before .before .before .before .before .before .before .before in
+    let loop = taken .before .before .before .before .before .before .before .before .before .before in
+    taken .take-in3 .kept .1 .1 .1 .1 .1 .0 ∙ loop .loop3 .inv .0 .starts .long ∙ sym (loop .before .before .before .before .before .before .before .before .before .before .before .before .before .before .before .before .before .before .before .before .before .before .before .before .before .before .before .before .pre .1 .starts)
 
 same-length-19 : tie.Need-same-length-19 Inv-loop μ-loop Inv-loop3 μ-loop3 Inv-loop2 μ-loop2
-same-length-19 c = c .before .before .before .before .before .before .before .before .before .take-in3 .kept .1 .1 .1 .1 .1 .1 .0 ∙ c .before .before .before .before .before .before .before .before .before .before .before .before .before .before .before .before .before .before .before .loop3 .inv .0 .downs .long ∙ sym (c .before .before .before .before .before .before .before .before .before .before .before .before .before .before .before .before .before .before .before .before .before .before .before .before .before .before .before .before .before .before .before .before .before .before .before .before .before .before .before .before .before .before .before .before .before .before .before .pre .1 .downs)
+same-length-19 c =
+    let taken = c .before .before .before .before .before .before .before .before .before in
+    let loop = taken .before .before .before .before .before .before .before .before .before .before in
+    taken .take-in3 .kept .1 .1 .1 .1 .1 .1 .0 ∙ loop .loop3 .inv .0 .downs .long ∙ sym (loop .before .before .before .before .before .before .before .before .before .before .before .before .before .before .before .before .before .before .before .before .before .before .before .before .before .before .before .before .pre .1 .downs)
 
 same-length-20 : tie.Need-same-length-20 Inv-loop μ-loop Inv-loop3 μ-loop3 Inv-loop2 μ-loop2
-same-length-20 c = c .before .before .before .before .before .before .before .before .before .take-in3 .kept .1 .1 .1 .1 .1 .1 .1 .0 ∙ c .before .before .before .before .before .before .before .before .before .before .before .before .before .before .before .before .before .before .before .loop3 .inv .0 .ups .long ∙ sym (c .before .before .before .before .before .before .before .before .before .before .before .before .before .before .before .before .before .before .before .before .before .before .before .before .before .before .before .before .before .before .before .before .before .before .before .before .before .before .before .before .before .before .before .before .before .before .before .pre .1 .ups)
+same-length-20 c =
+    let taken = c .before .before .before .before .before .before .before .before .before in
+    let loop = taken .before .before .before .before .before .before .before .before .before .before in
+    taken .take-in3 .kept .1 .1 .1 .1 .1 .1 .1 .0 ∙ loop .loop3 .inv .0 .ups .long ∙ sym (loop .before .before .before .before .before .before .before .before .before .before .before .before .before .before .before .before .before .before .before .before .before .before .before .before .before .before .before .before .pre .1 .ups)
 
 returns-4 : tie.Need-returns-4 Inv-loop μ-loop Inv-loop3 μ-loop3 Inv-loop2 μ-loop2
 returns-4 c =
-    let told = ap (λ (r : Reading). r .whole) (c .broken-off4 .ensures) in
-    broken _ _ told (not-marked _ _ (c .before .before .before .before .before .before .before .before .before .before .before .before .before .before .before .before .before .before .before .loop3 .inv .0) (below _ _ (c .before .before .before .before .before .before .before .before .before .before .before .before .before .before .before .before .before .before .before .loop3 .inv .0) (c .before .before .before .before .before .before .before .before .before .before .before .before .before .before .before .before .before .before .loop3-test .taken)) (plain-body _ _ (sym (c .before .before .before .before .before .before .before .before .before .before .before .before .before .before .before .before .before .is-plain2 .ensures) ∙ c .before .before .before .before .before .before .before .before .before .before .before .before .before .before .before .before .if5 .taken) ∙ sym (c .before .before .before .before .before .before .before .before .before .before .before .before .before .before .before .body-fields2 .ensures)) (sym (c .before .before .before .before .before .before .before .before .before .take-in3 .ensures .told) ∙ not-true _ (c .before .if6 .taken)))
+    let taken = c .before .before .before .before .before .before .before .before .before in
+    let unit = taken .before .before .before .before .before .before in
+    let s = unit .before .before .before .before .before .before .before .before .before .before .before .before .before .before .before .before .before .before .before .before .before .before .before .before .before .before .before .before .before .before .before .before in
+    let kind = unit .before .before in
+    let v = kind .before .before .loop3 in
+    let g = v .inv .0 in
+    let l = below _ _ g (kind .before .loop3-test .taken) in
+    let there = sym (kind .is-plain2 .ensures) ∙ unit .before .if5 .taken in
+    let same = plain-body (now (s .args .s)) (v .here) there ∙ sym (unit .body-fields2 .ensures) in
+    let fails = sym (taken .take-in3 .ensures .told) ∙ not-true _ (c .before .if6 .taken) in
+    broken _ _ (ap (λ (r : Reading). r .whole) (c .broken-off4 .ensures)) (not-marked _ _ g l same fails)
 
 add-p-3 : tie.Need-add-p-3 Inv-loop μ-loop Inv-loop3 μ-loop3 Inv-loop2 μ-loop2
 add-p-3 c =
-    let g = c .before .before .before .before .before .before .before .before .before .before .before .before .before .before .before .before .before .before .before .before .loop3 .inv .0 in
-    let l = below _ _ (c .before .before .before .before .before .before .before .before .before .before .before .before .before .before .before .before .before .before .before .before .loop3 .inv .0) (c .before .before .before .before .before .before .before .before .before .before .before .before .before .before .before .before .before .before .before .loop3-test .taken) in
-    let there = sym (c .before .before .before .before .before .before .before .before .before .before .before .before .before .before .before .before .before .before .is-plain2 .ensures) ∙ c .before .before .before .before .before .before .before .before .before .before .before .before .before .before .before .before .before .if5 .taken in
-    let w = small _ _ g l (plain-body (now (c .before .before .before .before .before .before .before .before .before .before .before .before .before .before .before .before .before .before .before .before .before .before .before .before .before .before .before .before .before .before .before .before .before .before .before .before .before .before .before .before .before .before .before .before .before .before .before .before .args .s)) (c .before .before .before .before .before .before .before .before .before .before .before .before .before .before .before .before .before .before .before .before .loop3 .here) there ∙ sym (c .before .before .before .before .before .before .before .before .before .before .before .before .before .before .before .before .body-fields2 .ensures)) (plain-whole (now (c .before .before .before .before .before .before .before .before .before .before .before .before .before .before .before .before .before .before .before .before .before .before .before .before .before .before .before .before .before .before .before .before .before .before .before .before .before .before .before .before .before .before .before .before .before .before .before .before .args .s)) (c .before .before .before .before .before .before .before .before .before .before .before .before .before .before .before .before .before .before .before .before .loop3 .here) there) (c .before .before .before .before .before .before .before .before .before .before .take-in3 .ensures) (not-false _ (c .before .before .if6 .left)) in
+    let taken = c .before .before .before .before .before .before .before .before .before .before in
+    let unit = taken .before .before .before .before .before .before in
+    let s = unit .before .before .before .before .before .before .before .before .before .before .before .before .before .before .before .before .before .before .before .before .before .before .before .before .before .before .before .before .before .before .before .before in
+    let kind = unit .before .before in
+    let v = kind .before .before .loop3 in
+    let g = v .inv .0 in
+    let l = below _ _ g (kind .before .loop3-test .taken) in
+    let there = sym (kind .is-plain2 .ensures) ∙ unit .before .if5 .taken in
+    let same = plain-body (now (s .args .s)) (v .here) there ∙ sym (unit .body-fields2 .ensures) in
+    let whole = plain-whole (now (s .args .s)) (v .here) there in
+    let yes = not-false _ (c .before .before .if6 .left) in
+    let w = small _ _ g l same whole (taken .take-in3 .ensures) yes in
     rw (added-back (g .sold) (upto _ _ g), back _ w) (added-fits (g .sold) (upto _ _ g) _ w (omega (arith, l, g .begun .few)))
 
 cast-floor-3 : tie.Need-cast-floor-3 Inv-loop μ-loop Inv-loop3 μ-loop3 Inv-loop2 μ-loop2
@@ -277,26 +436,43 @@ add-floor-3 c = search needs
 
 add-here-3 : tie.Need-add-here-3 Inv-loop μ-loop Inv-loop3 μ-loop3 Inv-loop2 μ-loop2
 add-here-3 c =
-    let s = c .before .before .before .before .before .before .before .before .before .before .before .before .before .before .before .before .before .before .before .before .before .before .before .before .before .before .before .before .before .before .before .before .before .before .before .before .before .before .before .before .before .before .before .before .before .before .before .before .before in
-    omega (arith, whole-headed (now (s .args .s)) (c .before .before .before .before .before .before .before .before .before .before .before .before .before .before .before .before .before .before .before .before .before .loop3 .here) unitKind unitLength (sym (c .before .before .before .before .before .before .before .before .before .before .before .before .before .before .before .before .before .before .before .is-plain2 .ensures) ∙ c .before .before .before .before .before .before .before .before .before .before .before .before .before .before .before .before .before .before .if5 .taken) .long, s .good .0)
+    let taken = c .before .before .before .before .before .before .before .before .before .before .before in
+    let unit = taken .before .before .before .before .before .before in
+    let s = unit .before .before .before .before .before .before .before .before .before .before .before .before .before .before .before .before .before .before .before .before .before .before .before .before .before .before .before .before .before .before .before .before in
+    let kind = unit .before .before in
+    let v = kind .before .before .loop3 in
+    let there = sym (kind .is-plain2 .ensures) ∙ unit .before .if5 .taken in
+    omega (arith, whole-headed (now (s .args .s)) (v .here) unitKind unitLength there .long, s .good .0)
 
 add-i-3 : tie.Need-add-i-3 Inv-loop μ-loop Inv-loop3 μ-loop3 Inv-loop2 μ-loop2
 add-i-3 c =
-    let g = c .before .before .before .before .before .before .before .before .before .before .before .before .before .before .before .before .before .before .before .before .before .loop3 .inv .0 in
-    omega (arith, below _ _ (c .before .before .before .before .before .before .before .before .before .before .before .before .before .before .before .before .before .before .before .before .before .loop3 .inv .0) (c .before .before .before .before .before .before .before .before .before .before .before .before .before .before .before .before .before .before .before .before .loop3-test .taken), g .begun .few)
+    let test = c .before .before .before .before .before .before .before .before .before .before .before .before .before .before .before .before .before .before .before .before in
+    let g = test .before .loop3 .inv .0 in
+    omega (arith, below _ _ g (test .loop3-test .taken), g .begun .few)
 
 loop3-less : tie.Need-loop3-less Inv-loop μ-loop Inv-loop3 μ-loop3 Inv-loop2 μ-loop2
-loop3-less c = omega (arith, below _ _ (c .before .before .before .before .before .before .before .before .before .before .before .before .before .before .before .before .before .before .before .before .before .loop3 .inv .0) (c .before .before .before .before .before .before .before .before .before .before .before .before .before .before .before .before .before .before .before .before .loop3-test .taken))
+loop3-less c =
+    let test = c .before .before .before .before .before .before .before .before .before .before .before .before .before .before .before .before .before .before .before .before in
+    omega (arith, below _ _ (test .before .loop3 .inv .0) (test .loop3-test .taken))
 
 loop3-again : tie.Need-loop3-again Inv-loop μ-loop Inv-loop3 μ-loop3 Inv-loop2 μ-loop2
 loop3-again c =
-    let g = c .before .before .before .before .before .before .before .before .before .before .before .before .before .before .before .before .before .before .before .before .before .loop3 .inv .0 in
-    let l = below _ _ (c .before .before .before .before .before .before .before .before .before .before .before .before .before .before .before .before .before .before .before .before .before .loop3 .inv .0) (c .before .before .before .before .before .before .before .before .before .before .before .before .before .before .before .before .before .before .before .before .loop3-test .taken) in
-    let there = sym (c .before .before .before .before .before .before .before .before .before .before .before .before .before .before .before .before .before .before .before .is-plain2 .ensures) ∙ c .before .before .before .before .before .before .before .before .before .before .before .before .before .before .before .before .before .before .if5 .taken in
-    let w = small _ _ g l (plain-body (now (c .before .before .before .before .before .before .before .before .before .before .before .before .before .before .before .before .before .before .before .before .before .before .before .before .before .before .before .before .before .before .before .before .before .before .before .before .before .before .before .before .before .before .before .before .before .before .before .before .before .args .s)) (c .before .before .before .before .before .before .before .before .before .before .before .before .before .before .before .before .before .before .before .before .before .loop3 .here) there ∙ sym (c .before .before .before .before .before .before .before .before .before .before .before .before .before .before .before .before .before .body-fields2 .ensures)) (plain-whole (now (c .before .before .before .before .before .before .before .before .before .before .before .before .before .before .before .before .before .before .before .before .before .before .before .before .before .before .before .before .before .before .before .before .before .before .before .before .before .before .before .before .before .before .before .before .before .before .before .before .before .args .s)) (c .before .before .before .before .before .before .before .before .before .before .before .before .before .before .before .before .before .before .before .before .before .loop3 .here) there) (c .before .before .before .before .before .before .before .before .before .before .before .take-in3 .ensures) (not-false _ (c .before .before .before .if6 .left)) in
-    let q : ofZ w32 (toZ w32 (c .before .before .before .before .before .before .before .before .before .before .before .before .before .before .before .before .before .before .before .before .before .loop3 .p) +ℤ toZ w32 (ofZ w32 (c .before .before .before .before .before .before .before .before .before .before .before .before .before .before .before .before .before .body-fields2 .result .pc .0))) ≡ ofZ w32 (sumZ (pcIn (now (c .before .before .before .before .before .before .before .before .before .before .before .before .before .before .before .before .before .before .before .before .before .before .before .before .before .before .before .before .before .before .before .before .before .before .before .before .before .before .before .before .before .before .before .before .before .before .before .before .before .args .s)) (c .before .before .before .before .before .before .before .before .before .before .before .before .before .before .before .before .before .before .before .before .before .loop3 .i)) +ℤ c .before .before .before .before .before .before .before .before .before .before .before .before .before .before .before .before .before .body-fields2 .result .pc .0) = rw (added-back (g .sold) (upto _ _ g), back _ w) in
-    let next = turn _ _ g l (plain-body (now (c .before .before .before .before .before .before .before .before .before .before .before .before .before .before .before .before .before .before .before .before .before .before .before .before .before .before .before .before .before .before .before .before .before .before .before .before .before .before .before .before .before .before .before .before .before .before .before .before .before .args .s)) (c .before .before .before .before .before .before .before .before .before .before .before .before .before .before .before .before .before .before .before .before .before .loop3 .here) there ∙ sym (c .before .before .before .before .before .before .before .before .before .before .before .before .before .before .before .before .before .body-fields2 .ensures)) (plain-whole (now (c .before .before .before .before .before .before .before .before .before .before .before .before .before .before .before .before .before .before .before .before .before .before .before .before .before .before .before .before .before .before .before .before .before .before .before .before .before .before .before .before .before .before .before .before .before .before .before .before .before .args .s)) (c .before .before .before .before .before .before .before .before .before .before .before .before .before .before .before .before .before .before .before .before .before .loop3 .here) there) (c .before .before .before .before .before .before .before .before .before .before .before .take-in3 .ensures) (not-false _ (c .before .before .before .if6 .left)) (sym (ap (λ (u : UnitRecord). c .before .before .before .before .before .before .before .before .before .before .before .before .before .before .before .before .before .before .before .before .before .loop3 .here + lengthOf u) (plain-body (now (c .before .before .before .before .before .before .before .before .before .before .before .before .before .before .before .before .before .before .before .before .before .before .before .before .before .before .before .before .before .before .before .before .before .before .before .before .before .before .before .before .before .before .before .before .before .before .before .before .before .args .s)) (c .before .before .before .before .before .before .before .before .before .before .before .before .before .before .before .before .before .before .before .before .before .loop3 .here) there))) refl q in
-    (next, omega (arith, c .before .before .before .before .before .before .before .before .before .before .before .before .before .before .before .before .before .before .before .before .before .loop3 .inv .1))
+    let taken = c .before .before .before .before .before .before .before .before .before .before .before in
+    let unit = taken .before .before .before .before .before .before in
+    let s = unit .before .before .before .before .before .before .before .before .before .before .before .before .before .before .before .before .before .before .before .before .before .before .before .before .before .before .before .before .before .before .before .before in
+    let kind = unit .before .before in
+    let v = kind .before .before .loop3 in
+    let g = v .inv .0 in
+    let l = below _ _ g (kind .before .loop3-test .taken) in
+    let there = sym (kind .is-plain2 .ensures) ∙ unit .before .if5 .taken in
+    let same = plain-body (now (s .args .s)) (v .here) there ∙ sym (unit .body-fields2 .ensures) in
+    let whole = plain-whole (now (s .args .s)) (v .here) there in
+    let yes = not-false _ (c .before .before .before .if6 .left) in
+    let w = small _ _ g l same whole (taken .take-in3 .ensures) yes in
+    let end = sym (ap (λ (u : UnitRecord). v .here + lengthOf u) (plain-body (now (s .args .s)) (v .here) there)) in
+    let sold : ofZ w32 (toZ w32 (v .p) +ℤ toZ w32 (ofZ w32 (unit .body-fields2 .result .pc .0))) ≡ ofZ w32 (sumZ (pcIn (now (s .args .s)) (v .i)) +ℤ unit .body-fields2 .result .pc .0) =
+    rw (added-back (g .sold) (upto _ _ g), back _ w) in
+    (turn _ _ g l same whole (taken .take-in3 .ensures) yes end refl sold, omega (arith, v .inv .1))
 
 same-length-21 : tie.Need-same-length-21 Inv-loop μ-loop Inv-loop3 μ-loop3 Inv-loop2 μ-loop2
 same-length-21 c = c .before .loop2 .inv .0 .classes .long ∙ sym (c .before .before .before .before .before .before .before .pre .1 .classes)

@@ -17,10 +17,6 @@ use Rattle.blocks.proofs.Units.{mark}
 use borrow.Author.Needs.{needs}
 use Rattle.blocks.proofs.decode.take_in.Statement.{statement}
 use Rattle.blocks.proofs.decode.take_in.Tie as tie
-use Rattle.records.proofs.faults.marks_pass.Reads as marks-pass-reads
-use Rattle.records.proofs.unit.UnitRecord.margins.Reads as margins-reads
-use Rattle.terms.proofs.quantity.considered.Reads as considered-reads
-use Rattle.terms.proofs.quantity.is_implicit.Reads as is-implicit-reads
 
 marks-pass-requires : tie.Need-marks-pass-requires
 marks-pass-requires c κs = search needs

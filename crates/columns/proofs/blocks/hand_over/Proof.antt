@@ -5,10 +5,6 @@ use mathlib.Core.Path.{sym}
 use borrow.Author.Needs.{needs}
 use Rattle.columns.proofs.blocks.hand_over.Statement.{statement}
 use Rattle.columns.proofs.blocks.hand_over.Tie as tie
-use Rattle.columns.proofs.blocks.write_body.Reads as write-body-reads
-use Rattle.columns.proofs.reading.ends_at.Reads as ends-at-reads
-use Rattle.columns.proofs.reading.length_at.Reads as length-at-reads
-use Rattle.columns.proofs.reading.permitted.Reads as permitted-reads
 
 returns : tie.Need-returns
 returns c = search needs

@@ -5,10 +5,6 @@ use lib.Seq.{length-take-le}
 use borrow.Author.Needs.{needs}
 use Rattle.columns.proofs.blocks.write_body.Statement.{statement}
 use Rattle.columns.proofs.blocks.write_body.Tie as tie
-use Rattle.columns.proofs.blocks.write_columns.Reads as write-columns-reads
-use Rattle.columns.proofs.reading.halves_at.Reads as halves-at-reads
-use Rattle.columns.proofs.reading.signed_at.Reads as signed-at-reads
-use Rattle.columns.proofs.reading.words_at.Reads as words-at-reads
 
 halves-at-requires : tie.Need-halves-at-requires
 halves-at-requires c κs = search needs

@@ -8,7 +8,6 @@ use mathlib.Core.Path.{sym, _∙_}
 use borrow.Author.Needs.{needs}
 use Rattle.records.proofs.faults.ends_pass.Statement.{statement}
 use Rattle.records.proofs.faults.ends_pass.Tie as tie
-use Rattle.records.proofs.faults.is_pair.Reads as is-pair-reads
 
 returns : tie.Need-returns
 returns c = rw (ne-eqb _ _ (c .if1 .taken))

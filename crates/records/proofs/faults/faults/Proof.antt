@@ -6,9 +6,6 @@ use Rattle.records.specs.Reading.{valueFaults, also}
 use borrow.Author.Needs.{needs}
 use Rattle.records.proofs.faults.faults.Statement.{statement}
 use Rattle.records.proofs.faults.faults.Tie as tie
-use Rattle.records.proofs.faults.marks.Reads as marks-reads
-use Rattle.records.proofs.quantities.quantities.Reads as quantities-reads
-use Rattle.records.proofs.unit.is_unit.Reads as is-unit-reads
 
 is-unit-requires : tie.Need-is-unit-requires
 is-unit-requires c κs = search needs

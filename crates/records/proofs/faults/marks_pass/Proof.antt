@@ -10,10 +10,6 @@ use Rattle.records.specs.Inner.{isFine, marksPass}
 use borrow.Author.Needs.{needs}
 use Rattle.records.proofs.faults.marks_pass.Statement.{statement}
 use Rattle.records.proofs.faults.marks_pass.Tie as tie
-use Rattle.records.proofs.age.is_aged.Reads as is-aged-reads
-use Rattle.records.proofs.faults.ends_pass.Reads as ends-pass-reads
-use Rattle.records.proofs.faults.marks.Reads as marks-reads
-use Rattle.terms.proofs.check.position.Reads as position-reads
 
 -- the position is what its bits say
 pc-back : (c : tie.After-marks) → toZ w32 (ofZ w32 (c .before .args .u .pc .0)) ≡ c .before .args .u .pc .0

@@ -1,7 +1,7 @@
 -- An 04h, or the full ends.
 use lib.Dec.{eqb}
 use mathlib.Core.Bool.{false}
-use mir.Val.{SFits, toZ, ofZ}
+use mir.Val.{SFits}
 use mathlib.Core.Path.{_≡_}
 use borrow.Author.Tests.{eq-eqb, ne-eqb}
 use lib.IntN.{pos, negℤ}

@@ -16,9 +16,6 @@ use Rattle.records.proofs.Checks.{check-past, check-out}
 use borrow.Author.Needs.{needs}
 use Rattle.records.proofs.quantities.orders.Statement.{statement}
 use Rattle.records.proofs.quantities.orders.Tie as tie
-use Rattle.records.proofs.quantities.ends_fit.Reads as ends-fit-reads
-use Rattle.records.proofs.unit.UnitRecord.margins.Reads as margins-reads
-use Rattle.terms.proofs.check.ordered.Reads as ordered-reads
 
 ordered-requires : tie.Need-ordered-requires
 ordered-requires c κs = search needs

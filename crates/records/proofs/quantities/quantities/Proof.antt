@@ -3,8 +3,6 @@ use Rattle.records.specs.Reading.{quantityFaults, also}
 use borrow.Author.Needs.{needs}
 use Rattle.records.proofs.quantities.quantities.Statement.{statement}
 use Rattle.records.proofs.quantities.quantities.Tie as tie
-use Rattle.records.proofs.quantities.orders.Reads as orders-reads
-use Rattle.records.proofs.quantities.ranges.Reads as ranges-reads
 
 ranges-requires : tie.Need-ranges-requires
 ranges-requires c κs = search needs

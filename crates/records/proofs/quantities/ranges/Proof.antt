@@ -9,8 +9,6 @@ use Rattle.records.specs.Reading.{rangeFaults}
 use borrow.Author.Needs.{needs}
 use Rattle.records.proofs.quantities.ranges.Statement.{statement}
 use Rattle.records.proofs.quantities.ranges.Tie as tie
-use Rattle.terms.proofs.check.nomination.Reads as nomination-reads
-use Rattle.terms.proofs.check.position.Reads as position-reads
 
 nomination-requires : tie.Need-nomination-requires
 nomination-requires c κs = search needs

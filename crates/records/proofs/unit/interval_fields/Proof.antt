@@ -5,9 +5,6 @@ use mir.Val.{toZ, ofZ}
 use borrow.Author.Needs.{needs}
 use Rattle.records.proofs.unit.interval_fields.Statement.{statement}
 use Rattle.records.proofs.unit.interval_fields.Tie as tie
-use Rattle.numbers.proofs.bytes.i32_at.Reads as i32-at-reads
-use Rattle.records.proofs.unit.UnitRecord.with_ends.Reads as with-ends-reads
-use Rattle.records.proofs.unit.body_fields.Reads as body-fields-reads
 
 add-i32-at : tie.Need-add-i32-at
 add-i32-at c = search needs

@@ -1,6 +1,5 @@
 -- The one kind, or the other.
 use borrow.Author.Tests.{eq-eqb, ne-eqb}
-use native.Mathlib.Omega.{arith}
 use Rattle.records.proofs.unit.is_unit.Statement.{statement}
 use Rattle.records.proofs.unit.is_unit.Tie as tie
 

@@ -6,8 +6,6 @@ use Rattle.records.specs.Layouts.{unitAt}
 use Rattle.records.proofs.UnitHeads.{length-least}
 use Rattle.records.proofs.unit.unit_fields.Statement.{statement}
 use Rattle.records.proofs.unit.unit_fields.Tie as tie
-use Rattle.records.proofs.unit.body_fields.Reads as body-fields-reads
-use Rattle.records.proofs.unit.interval_fields.Reads as interval-fields-reads
 
 shared-slice-read-if1 : tie.Need-shared-slice-read-if1
 shared-slice-read-if1 c =

@@ -3,8 +3,6 @@ use mathlib.Core.Path.{sym, _∙_}
 use borrow.Author.Needs.{needs}
 use Rattle.records.proofs.units.is_whole.Statement.{statement}
 use Rattle.records.proofs.units.is_whole.Tie as tie
-use Rattle.records.proofs.units.is_interval.Reads as is-interval-reads
-use Rattle.records.proofs.units.is_plain.Reads as is-plain-reads
 
 is-plain-requires : tie.Need-is-plain-requires
 is-plain-requires c κs = search needs

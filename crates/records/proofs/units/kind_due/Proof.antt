@@ -2,7 +2,6 @@
 use denote.Ref.{now}
 use lib.ListN.{List·getD-eq-default}
 use borrow.Author.Tests.{eq-eqb, ne-eqb}
-use native.Mathlib.Omega.{arith}
 use Rattle.records.specs.Layouts.{unitAt}
 use borrow.Author.Needs.{needs}
 use Rattle.records.proofs.units.kind_due.Statement.{statement}

@@ -4,7 +4,6 @@ use mathlib.Core.Path.{sym, _∙_}
 use borrow.Author.Needs.{needs}
 use Rattle.records.proofs.units.unit_length.Statement.{statement}
 use Rattle.records.proofs.units.unit_length.Tie as tie
-use Rattle.records.proofs.units.kind_due.Reads as kind-due-reads
 
 kind-due-requires : tie.Need-kind-due-requires
 kind-due-requires c κs = search needs

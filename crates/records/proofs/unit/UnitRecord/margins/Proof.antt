@@ -7,8 +7,6 @@ use borrow.Author.Tests.{eq-eqb, ne-eqb}
 use borrow.Author.Needs.{needs}
 use Rattle.records.proofs.unit.UnitRecord.margins.Statement.{statement}
 use Rattle.records.proofs.unit.UnitRecord.margins.Tie as tie
-use Rattle.records.proofs.unit.larger.Reads as larger-reads
-use Rattle.records.proofs.unit.smaller.Reads as smaller-reads
 
 larger-requires : tie.Need-larger-requires
 larger-requires c κs = search needs
