@@ -35,7 +35,7 @@ use Rattle.records.proofs.Marks.{marked, marks-enough, unit-read, read-marked}
 use Rattle.records.proofs.Turns.{unitsAfter, units-steps}
 use Rattle.blocks.specs.Blocks.{blockCount}
 use Rattle.blocks.specs.declared.decode.Reading.{Reading}
-use Rattle.blocks.specs.Inner.{Begun, Passed, UnitRoom, TakenIn, Decoded, Amounts, unitsAt, UnitsRead}
+use Rattle.blocks.specs.Inner.{Begun, Passed, UnitRoom, TakenIn, ReadTo, Decoded, Amounts, unitsAt, UnitsRead}
 use Rattle.blocks.proofs.Filling.{Filled, fill-none, fill-more, fill-all}
 
 -- the unit of an index passed its checks, and lies whole in the block
@@ -183,6 +183,24 @@ module _ (s : List ℕ) (day : DayRecord) where
                 let next = reading.turn (units-steps s day) count i (g .left (λ j k. all j (omega arith))) l (unit-read s here floor day there fine) in
                 rw (eh, ef ∙ ap (λ (x : UnitRecord). x .number + 1) (sym v)) next
 
+    -- handed on where units are left, and taken up again
+    pub hand-on : i < count → ReadTo s day class taken n0 down up here floor (toZ w32 p) i
+    hand-on l =
+        record {
+          begun = g .begun;
+          within = l;
+          place = g .place;
+          left = λ all. g .left all .so;
+          sold = added-back (g .sold) upto;
+          small = g .sold .small;
+          room = record { classes = g .classes .long; marks = g .marks .long; starts = g .starts .long; downs = g .downs .long; ups = g .ups .long };
+          classes = g .classes .so;
+          marks = g .marks .so;
+          starts = g .starts .so;
+          downs = g .downs .so;
+          ups = g .ups .so;
+        }
+
     pub end : count ≤ i → Decoded s (toZ w32 p) class taken n0 down up
     end l =
         let h = g .within in
@@ -200,6 +218,22 @@ module _ (s : List ℕ) (day : DayRecord) where
     ended l all =
         let h = g .within in
         sym (reading.end (units-steps s day) count i (g .left (λ j k. all j (omega arith))) l)
+
+  pub take-up : {class taken : List ℕ} {n0 down up : List ℤ} {here floor i : ℕ} {z : ℤ} → ReadTo s day class taken n0 down up here floor z i
+      → Going class taken n0 down up here floor (ofZ w32 z) i
+  take-up r =
+      record {
+        begun = r .begun;
+        within = omega (arith, r .within);
+        place = r .place;
+        left = λ all. record { within = omega (arith, r .within); so = r .left all };
+        sold = record { total = rw (r .sold); small = r .small };
+        classes = record { long = r .room .classes; so = r .classes };
+        marks = record { long = r .room .marks; so = r .marks };
+        starts = record { long = r .room .starts; so = r .starts };
+        downs = record { long = r .room .downs; so = r .downs };
+        ups = record { long = r .room .ups; so = r .ups };
+      }
 
 -- a reading that was broken off, and one that came to its end
 module _ (s : List ℕ) (day : DayRecord) {r : Reading} {class taken : List ℕ} {n0 down up : List ℤ} where

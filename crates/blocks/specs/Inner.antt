@@ -1,12 +1,13 @@
 -- What inner functions ask of each other: no promise rests on it.
-use Prim.Native.Nat.{ℕ, _+_, _≤_, _<_}
+use Prim.Native.Nat.{ℕ, _+_, _-_, _*_, _≤_, _<_}
 use mathlib.Core.Path.{_≡_}
 use mathlib.Core.Bool.{Bool, true, false}
-use mathlib.Core.List.{List}
+use mathlib.Core.List.{List, _++_}
 use lib.Dec.{leb}
 use lib.IntN.{ℤ}
-use lib.ListN.{length, getD, set}
+use lib.ListN.{length, getD, set, drop}
 use Rattle.numbers.specs.Bytes.{laidAt}
+use Rattle.numbers.specs.Range.{Within}
 use Rattle.numbers.specs.Sum.{sumZ, bit}
 use Rattle.terms.specs.Reply.{Reply, is, refused, need, next}
 use Rattle.terms.specs.Refusals.{answer}
@@ -77,6 +78,21 @@ Amounts s i = faultsOf (unitN0 (unitIn s i)) (marginsOf (unitIn s i)) ≡ 0
 -- the units of a block, judged by a day record
 abbrev pub unitsAt : List ℕ → DayRecord → Reply ℕ
 unitsAt s day = unitsOf s groupLength 0 day (blockCount s)
+
+-- the units in front of one that is left are read into the columns; where no nomination and no margins of theirs fail, the units from that one on are all that is to be read
+pub record ReadTo (s : List ℕ) (day : DayRecord) (class taken : List ℕ) (n0 down up : List ℤ) (here floor : ℕ) (p : ℤ) (i : ℕ) : Type 0 where
+  pub begun : Begun s
+  pub within : i < blockCount s
+  pub place : here ≡ unitPlace s i
+  pub left : ((j : ℕ) → j < i → Amounts s j) → unitsAt s day ≡ unitsOf s here floor day (blockCount s - i)
+  pub sold : p ≡ sumZ (pcIn s i)
+  pub small : Within (i * 1000000) (sumZ (pcIn s i))
+  pub room : UnitRoom (blockCount s) class taken n0 down up
+  pub classes : class ≡ classesIn s i ++ drop i class
+  pub marks : taken ≡ takenIn s i ++ drop i taken
+  pub starts : n0 ≡ n0In s i ++ drop i n0
+  pub downs : down ≡ stepDownIn s i ++ drop i down
+  pub ups : up ≡ stepUpIn s i ++ drop i up
 
 -- units read without a look at nominations and margins: where these pass too the block's units do; a reading that was broken off says that they do not
 pub record UnitsRead (s : List ℕ) (day : DayRecord) (r : Reading) (class taken : List ℕ) (n0 down up : List ℤ) : Type 0 where

@@ -6,7 +6,8 @@ ghost use lib.IntN.{pos};
 ghost use lib.ListN.{length};
 ghost use Rattle.terms.specs.Checks.{mostUnits};
 ghost use Rattle.records.specs.Layouts.{groupAt};
-ghost use Rattle.blocks.specs.Inner.{Begun, UnitRoom, TakenIn, UnitsRead, UnitsTold, BlockTold};
+ghost use Rattle.records.specs.Inner.{isPlain};
+ghost use Rattle.blocks.specs.Inner.{Begun, UnitRoom, TakenIn, ReadTo, UnitsRead, UnitsTold, BlockTold};
 ghost use Rattle.blocks.specs.Blocks.{blockCount};
 use crate::check::Block;
 use crate::check::BlockAnswer;
@@ -75,8 +76,8 @@ fn take_in(
     true
 }
 
-// The units, each taken in, and P. Blocks of 03h alone are most of a day: they are read by a loop that knows nothing of ends, and only behind them come an 04h and the 03h after it, as long as units are left.
-fn read_into(
+// The units from one on that is no 03h: an 04h and the 03h after it, as long as units are left.
+fn read_on(
     s: &[u8],
     day: DayRecord,
     class: &mut [u8],
@@ -84,24 +85,19 @@ fn read_into(
     n0: &mut [i32],
     step_down: &mut [i32],
     step_up: &mut [i32],
+    from: usize,
+    least: u32,
+    sold: i32,
+    first: usize,
 ) -> Reading
-    requires { ⌜ Begun (now s) × UnitRoom (blockCount (now s)) (now class) (now taken) (now n0) (now «step_down») (now «step_up») ⌝ }
+    requires { ⌜ ReadTo (now s) day (now class) (now taken) (now n0) (now «step_down») (now «step_up») from least sold first ⌝ }
+    requires { ⌜ isPlain (now s) from ≡ false ⌝ }
     ensures { λ r. ⌜ UnitsRead (now (s .entry)) day r (now (class .exit)) (now (taken .exit)) (now (n0 .exit)) (now («step_down» .exit)) (now («step_up» .exit)) ⌝ }
 {
-    let mut floor: u32 = 0;
-    let mut here = GroupRecord::LEN;
-    let mut p: i32 = 0;
-    let mut i = 0;
-    while i < n0.len() && is_plain(s, here) {
-        let u = body_fields(s, here);
-        if !take_in(u, floor, day, class, taken, n0, step_down, step_up, i) {
-            return broken_off();
-        }
-        p += u.pc.0;
-        floor = (u.number as u32) + 1;
-        here += UnitRecord::LEN;
-        i += 1;
-    }
+    let mut floor = least;
+    let mut here = from;
+    let mut p = sold;
+    let mut i = first;
     while i < n0.len() {
         if !is_interval(s, here) {
             return broken_off();
@@ -124,6 +120,55 @@ fn read_into(
             here += UnitRecord::LEN;
             i += 1;
         }
+    }
+    Reading {
+        whole: true,
+        p: Position(p),
+        end: here,
+    }
+}
+
+// The units, each taken in, and P. Blocks of 03h alone are most of a day: they are read by a loop that knows nothing of ends, and what comes behind them apart from it.
+fn read_into(
+    s: &[u8],
+    day: DayRecord,
+    class: &mut [u8],
+    taken: &mut [u32],
+    n0: &mut [i32],
+    step_down: &mut [i32],
+    step_up: &mut [i32],
+) -> Reading
+    requires { ⌜ Begun (now s) × UnitRoom (blockCount (now s)) (now class) (now taken) (now n0) (now «step_down») (now «step_up») ⌝ }
+    ensures { λ r. ⌜ UnitsRead (now (s .entry)) day r (now (class .exit)) (now (taken .exit)) (now (n0 .exit)) (now («step_down» .exit)) (now («step_up» .exit)) ⌝ }
+{
+    let mut floor: u32 = 0;
+    let mut here = GroupRecord::LEN;
+    let mut p: i32 = 0;
+    let mut i = 0;
+    while i < n0.len() {
+        if !is_plain(s, here) {
+            return read_on(
+                s,
+                day,
+                class,
+                taken,
+                n0,
+                step_down,
+                step_up,
+                here,
+                floor,
+                p,
+                i,
+            );
+        }
+        let u = body_fields(s, here);
+        if !take_in(u, floor, day, class, taken, n0, step_down, step_up, i) {
+            return broken_off();
+        }
+        p += u.pc.0;
+        floor = (u.number as u32) + 1;
+        here += UnitRecord::LEN;
+        i += 1;
     }
     Reading {
         whole: true,
