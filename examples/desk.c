@@ -21,12 +21,13 @@ static const char *sentence(int32_t number)
     case FLEHWELLA_UNIT_NUMBER: return "unit numbers that do not rise";
     case FLEHWELLA_FLAG: return "class, coincide or nominated other than 0 or 1, or N not 0 though not nominated";
     case FLEHWELLA_RANGE: return "a quantity outside -1,000,000 to 1,000,000 kWh";
-    case FLEHWELLA_CROSSED: return "the step-down margin lies above the step-up margin";
+    case FLEHWELLA_CROSSED: return "the step-down margin lies above the step-up margin, or an interval's lower end above its upper";
     case FLEHWELLA_POSITION_AGE: return "positions older than the limit";
     case FLEHWELLA_MARGIN_AGE: return "margins older than the limit";
     case FLEHWELLA_ROOM: return "the room lent is too small";
     case FLEHWELLA_POSITION_AHEAD: return "positions made after the run";
     case FLEHWELLA_MARGIN_AHEAD: return "margins made after the run";
+    case FLEHWELLA_WORKING_CROSSED: return "the interval leaves no room between the margins";
     /* */
     default: return "a refusal that this call does not give";
     }
@@ -58,9 +59,16 @@ static int is_of_a_unit(int32_t number)
     case FLEHWELLA_CROSSED: return 1;
     case FLEHWELLA_MARGIN_AGE: return 1;
     case FLEHWELLA_MARGIN_AHEAD: return 1;
+    case FLEHWELLA_WORKING_CROSSED: return 1;
     /* */
     default: return 0;
     }
+}
+
+/* The length of a unit record by its kind. */
+static size_t unit_length(const uint8_t *unit)
+{
+    return unit[0] == 0x04 ? FLEHWELLA_INTERVAL_UNIT_LENGTH : FLEHWELLA_UNIT_LENGTH;
 }
 
 /* The number of the unit that a refusal of the block speaks of, or -1: the last of the shortest beginning of the block which is
@@ -71,10 +79,14 @@ static long unit_of(const uint8_t *day, uint8_t *block, int32_t reply)
     const int units = block[5];
     if (!is_of_a_unit(-reply))
         return -1;
-    for (block[5] = 1; block[5] < units; block[5]++)
-        if (flehwella_check(day, FLEHWELLA_DAY_LENGTH, block, FLEHWELLA_BLOCK_LENGTH(block[5]), room, sizeof room) == reply)
+    size_t last = FLEHWELLA_GROUP_LENGTH;
+    for (block[5] = 1; block[5] < units; block[5]++) {
+        const size_t length = last + unit_length(block + last);
+        if (flehwella_check(day, FLEHWELLA_DAY_LENGTH, block, length, room, sizeof room) == reply)
             break;
-    return (long)number_at(block + FLEHWELLA_BLOCK_LENGTH(block[5] - 1) + 1, 2);
+        last = length;
+    }
+    return (long)number_at(block + last + 1, 2);
 }
 
 /* Two's complement, with no step that C leaves to the compiler. */

@@ -21,31 +21,37 @@ extern "C" {
 #endif
 
 /* The version of this header and of the library it came with. */
-#define FLEHWELLA_VERSION "0.4.0"
+#define FLEHWELLA_VERSION "0.5.0"
 
-/* Lengths in bytes of what goes in: a day record; a group record and its unit records, which together are a block. */
+/* Lengths in bytes of what goes in: a day record; a group record and its unit records, which together are a block. A unit
+ * record is of kind 03h, or of kind 04h: that has the fields of 03h and then the two ends of a feasibility interval, and its
+ * margins count as far as they lie in the interval. */
 #define FLEHWELLA_DAY_LENGTH 12
 #define FLEHWELLA_GROUP_LENGTH 10
 #define FLEHWELLA_UNIT_LENGTH 26
+#define FLEHWELLA_INTERVAL_UNIT_LENGTH 34
 
 /* Lengths in bytes of what comes out: a group result, and a unit result for each unit of the block. */
 #define FLEHWELLA_GROUP_RESULT_LENGTH 27
 #define FLEHWELLA_UNIT_RESULT_LENGTH 20
 
-/* A block has 1 to FLEHWELLA_UNITS_MAX units. */
+/* A block has 1 to FLEHWELLA_UNITS_MAX units, of either kind in any order. */
 #define FLEHWELLA_UNITS_MAX 64
 
-/* The length of a block of that many units, and of its result. */
+/* The length of a block of that many units, all of kind 03h; of a block of that many of kind 03h and that many of kind 04h; and
+ * of the result of a block of that many units, of either kind. */
 #define FLEHWELLA_BLOCK_LENGTH(units) (FLEHWELLA_GROUP_LENGTH + (units) * FLEHWELLA_UNIT_LENGTH)
+#define FLEHWELLA_MIXED_LENGTH(units, interval_units) \
+    (FLEHWELLA_BLOCK_LENGTH(units) + (interval_units) * FLEHWELLA_INTERVAL_UNIT_LENGTH)
 #define FLEHWELLA_RESULT_LENGTH(units) (FLEHWELLA_GROUP_RESULT_LENGTH + (units) * FLEHWELLA_UNIT_RESULT_LENGTH)
 
 /* The longest block, and room enough for any result. */
-#define FLEHWELLA_BLOCK_MAX 1674
+#define FLEHWELLA_BLOCK_MAX 2186
 #define FLEHWELLA_RESULT_MAX 1307
 
 /* tests/refusals */
-/* Every refusal of the house, by its number. flehwella_check gives 1 to 12, 17 and 18, of which 6 to 9, 11 and 18 speak of
- * one unit. */
+/* Every refusal of the house, by its number. flehwella_check gives 1 to 12 and 17 to 19, of which 6 to 9, 11, 18 and 19
+ * speak of one unit. */
 enum flehwella_refusal {
     /* the record is cut short */
     FLEHWELLA_CUT_SHORT = 1,
@@ -63,7 +69,7 @@ enum flehwella_refusal {
     FLEHWELLA_FLAG = 7,
     /* a quantity outside -1,000,000 to 1,000,000 kWh */
     FLEHWELLA_RANGE = 8,
-    /* the step-down margin lies above the step-up margin */
+    /* the step-down margin lies above the step-up margin, or an interval's lower end above its upper */
     FLEHWELLA_CROSSED = 9,
     /* positions older than the limit */
     FLEHWELLA_POSITION_AGE = 10,
@@ -80,7 +86,9 @@ enum flehwella_refusal {
     /* positions made after the run */
     FLEHWELLA_POSITION_AHEAD = 17,
     /* margins made after the run */
-    FLEHWELLA_MARGIN_AHEAD = 18
+    FLEHWELLA_MARGIN_AHEAD = 18,
+    /* the interval leaves no room between the margins */
+    FLEHWELLA_WORKING_CROSSED = 19
 };
 /* */
 
@@ -95,7 +103,7 @@ enum flehwella_refusal {
  * The day is what was refused where day_length is below FLEHWELLA_DAY_LENGTH, or where the same day with a block_length of 0
  * gives another reply than -FLEHWELLA_CUT_SHORT; else it is the block. A refusal that speaks of one unit (above) speaks of the
  * k-th, for the least k with which the block cut to its first k units (its byte 5, the unit count, is k, and its length
- * FLEHWELLA_BLOCK_LENGTH(k)) is refused by the same number.
+ * FLEHWELLA_MIXED_LENGTH(a, b), a of the k being of kind 03h and b of kind 04h) is refused by the same number.
  *
  * Accepted: the first bytes of the room, as many as the reply says, are the result, and the room beyond them is untouched.
  * Refused: the whole room is untouched. Room for FLEHWELLA_RESULT_MAX bytes fits any result.

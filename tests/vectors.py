@@ -21,9 +21,10 @@ VECTORS = pathlib.Path(__file__).resolve().parent / "vectors"
 STATES = ["fresh", "open", "closed"]
 FRESH_DAY = bytes(21)
 FILLER = b"\xa5"
-ROOM_MAX = 2048
+ROOM_MAX = 2304
 COLUMN_MAX = 80
 BODY_MAX = 8192
+QUANTITY_MAX = 1_000_000
 
 
 class Skip(Exception):
@@ -175,11 +176,16 @@ def write_day_frame(v):
 
 
 def write_block_frame(v):
+    """A call that names no kinds is of 03h units, whose ends are the full ones."""
     columns = [v["number"], v["cls"], v["coincide"], v["nominated"], v["N"], v["PC"],
                v["mdown"], v["mup"], v["made"]]
+    if "unit_kind" in v:
+        columns += [v["unit_kind"], v["lower"], v["upper"]]
+    else:
+        columns += [[each] * len(v["number"]) for each in (3, -QUANTITY_MAX, QUANTITY_MAX)]
     return frame(5, struct.pack(">HBBI", v["brp"], v["zone"], v["quarter"], v["pos_made"])
                  + lengths_field([len(c) for c in columns]) + room_field(v["room_len"])
-                 + b"".join(pack(form, c) for form, c in zip("HBBBiiiiI", columns)))
+                 + b"".join(pack(form, c) for form, c in zip("HBBBiiiiIBii", columns)))
 
 
 def write_end_frame(v):

@@ -4,6 +4,7 @@
  * Four units are taken at a time in vectors of 128 bits. It differs from a plain program in this:
  *  - the checks of a unit are no branches: faults are gathered, and where one is found, or a block has fewer than four units,
  *    the second program judges the block;
+ *  - units that are all 03h or all 04h are read by places known beforehand; those of a block with both are looked up first;
  *  - whole parts and remainders of the shares come from exact arithmetic on doubles: C n is below 2^53 and so exact, and the
  *    quotient, below 10^6, lies at least 1/T from the next whole number, far more than its rounding;
  *  - the odd kWh go to the units whose remainders lie above a threshold, which is found by counting in vectors; sizes and places
@@ -127,27 +128,51 @@ static inline v4 outside(v4 quantity)
     return GT(ADD(quantity, ALL(QUANTITY_MAX + TOP)), ALL((2 * QUANTITY_MAX) ^ TOP));
 }
 
+/* Four units one behind the other, and where the interval ends of each stand; not looked at where all units are 03h. */
+struct four {
+    const uint8_t *unit[4], *ends[4];
+};
+
+/* The two numbers at each of four places. */
+static inline __attribute__((always_inline)) void load_pairs(const uint8_t *const *at, v4 *first, v4 *second)
+{
+    const __m128 a = _mm_castsi128_ps(_mm_unpacklo_epi64(load_8(at[0]), load_8(at[1])));
+    const __m128 b = _mm_castsi128_ps(_mm_unpacklo_epi64(load_8(at[2]), load_8(at[3])));
+    *first = _mm_castps_si128(_mm_shuffle_ps(a, b, 0x88));
+    *second = _mm_castps_si128(_mm_shuffle_ps(a, b, 0xDD));
+}
+
 /* Reads four units into the columns at i; those of `mine` count in the sums. The number before the first is `before`, and that
- * of the last is given back. */
-static inline __attribute__((always_inline)) v4 read_4(const uint8_t *at, struct columns *c, unsigned i, struct gathered *g,
+ * of the last is given back. Their kinds are a fault where they are not all `kind`; 0 takes both. */
+static inline __attribute__((always_inline)) v4 read_4(struct four at, int kind, struct columns *c, unsigned i, struct gathered *g,
                                                        v4 before, v4 mine, uint32_t run, uint32_t age_limit)
 {
-    const __m128 a = _mm_castsi128_ps(_mm_unpacklo_epi64(load_8(at), load_8(at + 26)));
-    const __m128 b = _mm_castsi128_ps(_mm_unpacklo_epi64(load_8(at + 52), load_8(at + 78)));
-    const v4 head = _mm_castps_si128(_mm_shuffle_ps(a, b, 0x88));  /* kind, number, class */
-    const v4 flags = _mm_castps_si128(_mm_shuffle_ps(a, b, 0xDD)); /* coincide, nominated */
-    v4 faults = OR(XOR(AND(head, ALL(0xFE0000FFu)), ALL(SECOND_KIND_UNIT)), AND(flags, ALL(0xFEFE)));
+    v4 head, flags;
+    load_pairs(at.unit, &head, &flags); /* kind, number, class; coincide, nominated */
+    const v4 wrong = kind != 0 ? XOR(AND(head, ALL(0xFE0000FFu)), ALL(kind)) : AND(head, ALL(0xFE000000u));
+    v4 faults = OR(wrong, AND(flags, ALL(0xFEFE)));
     const v4 number = OR(AND(head, ALL(0xFF00)), AND(_mm_srli_epi32(head, 16), ALL(0xFF)));
     g->rising = AND(g->rising, GT(number, OR(_mm_slli_si128(number, 4), before)));
     const v4 class_of = _mm_srai_epi32(_mm_slli_epi32(head, 7), 31);
     const v4 coincide = _mm_srai_epi32(_mm_slli_epi32(flags, 31), 31), nominated = _mm_srai_epi32(_mm_slli_epi32(flags, 23), 31);
 
-    v4 n = turned(LOAD(at + 6)), pc = turned(LOAD(at + 32)), m_down = turned(LOAD(at + 58)), m_up = turned(LOAD(at + 84));
+    v4 n = turned(LOAD(at.unit[0] + 6)), pc = turned(LOAD(at.unit[1] + 6));
+    v4 m_down = turned(LOAD(at.unit[2] + 6)), m_up = turned(LOAD(at.unit[3] + 6));
     transpose(&n, &pc, &m_down, &m_up); /* until here each was a unit's four quantities */
     faults = OR(faults, OR(OR(outside(n), outside(pc)), OR(outside(m_down), outside(m_up))));
+    if (kind != SECOND_KIND_UNIT) {
+        v4 lower, upper;
+        load_pairs(at.ends, &lower, &upper);
+        lower = turned(lower);
+        upper = turned(upper);
+        faults = OR(faults, OR(outside(lower), outside(upper)));
+        m_down = most(m_down, lower);
+        m_up = least(m_up, upper);
+    }
+    /* Margins or ends that cross do so as working margins too. */
     faults = OR(faults, OR(GT(m_down, m_up), NOTAND(nominated, n)));
-    const v4 made = turned(_mm_unpacklo_epi64(_mm_unpacklo_epi32(load_4(at + 22), load_4(at + 48)),
-                                              _mm_unpacklo_epi32(load_4(at + 74), load_4(at + 100))));
+    const v4 made = turned(_mm_unpacklo_epi64(_mm_unpacklo_epi32(load_4(at.unit[0] + 22), load_4(at.unit[1] + 22)),
+                                              _mm_unpacklo_epi32(load_4(at.unit[2] + 22), load_4(at.unit[3] + 22))));
     faults = OR(faults, GT(XOR(made, ALL(TOP)), ALL(run ^ TOP)));
     faults = OR(faults, GT(XOR(SUB(ALL(run), made), ALL(TOP)), ALL(age_limit ^ TOP)));
     g->faults = OR(g->faults, faults);
@@ -165,6 +190,79 @@ static inline __attribute__((always_inline)) v4 read_4(const uint8_t *at, struct
     STORE(c->class_of + i, class_of);
     STORE(c->not_implicit + i, not_implicit);
     return _mm_srli_si128(number, 12);
+}
+
+static const int32_t masks[8] = {0, 0, 0, 0, -1, -1, -1, -1};
+
+/* Where the units of a block stand that has both kinds. */
+struct places {
+    const uint8_t *unit[SECOND_UNITS_MAX], *ends[SECOND_UNITS_MAX];
+};
+
+static inline __attribute__((always_inline)) struct four four_at(const uint8_t *unit, int kind, const struct places *places, unsigned i)
+{
+    struct four at;
+    for (unsigned k = 0; k < 4; k++)
+        if (kind == 0) {
+            at.unit[k] = places->unit[i + k];
+            at.ends[k] = places->ends[i + k];
+        } else {
+            at.unit[k] = unit + (kind == SECOND_KIND_UNIT ? SECOND_UNIT_LENGTH : SECOND_UNIT_WITH_ENDS_LENGTH) * (size_t)(i + k);
+            at.ends[k] = at.unit[k] + SECOND_UNIT_LENGTH;
+        }
+    return at;
+}
+
+/* Reads all units, which are of the kind or, where it is 0, stand at the places; whether there was no fault. What is left over of
+ * four at a time is taken again with the units before it. */
+static inline __attribute__((always_inline)) int read_units(const uint8_t *unit, int kind, const struct places *places, unsigned units,
+                                                            struct columns *c, struct gathered *found, uint32_t run, uint32_t age_limit)
+{
+    const v4 nothing_before = _mm_set_epi32(0, 0, 0, -1), all = ALL(-1);
+    const unsigned odd = units % 4, last = units - 4;
+    struct gathered g = {ZERO, all, ZERO, ZERO};
+    v4 before = nothing_before;
+    for (unsigned i = 0; i + 4 <= units; i += 4)
+        before = read_4(four_at(unit, kind, places, i), kind, c, i, &g, before, all, run, age_limit);
+    if (odd) {
+        read_4(four_at(unit, kind, places, last), kind, c, last, &g, nothing_before, LOAD(masks + odd), run, age_limit);
+        STORE(c->n1 + units, ZERO);
+        STORE(c->class_of + units, ZERO);
+    }
+    *found = g;
+    return all_set(EQ(g.faults, ZERO)) && all_set(g.rising);
+}
+
+/* The same of units of both kinds, which are gone through first for their places: those of a 03h have the full ends. */
+static __attribute__((noinline)) int read_both(const uint8_t *unit, size_t length, unsigned units, struct columns *c, struct gathered *g,
+                                               uint32_t run, uint32_t age_limit)
+{
+    static const uint8_t full_ends[8] = {0xFF, 0xF0, 0xBD, 0xC0, 0x00, 0x0F, 0x42, 0x40};
+    struct places places;
+    for (unsigned i = 0; i < units; i++) {
+        if (length < SECOND_UNIT_LENGTH)
+            return 0;
+        const int with_ends = unit[0] == SECOND_KIND_UNIT_WITH_ENDS;
+        const size_t mine = with_ends ? SECOND_UNIT_WITH_ENDS_LENGTH : SECOND_UNIT_LENGTH;
+        if (length < mine || (!with_ends && unit[0] != SECOND_KIND_UNIT))
+            return 0;
+        places.unit[i] = unit;
+        places.ends[i] = with_ends ? unit + SECOND_UNIT_LENGTH : full_ends;
+        unit += mine;
+        length -= mine;
+    }
+    return read_units(NULL, 0, &places, units, c, g, run, age_limit);
+}
+
+/* Which kind all units of a block seem to have, by its first and its last; 0 where they seem to have both. */
+static inline int kind_of_all(const uint8_t *unit, size_t length, unsigned units)
+{
+    if (unit[0] == SECOND_KIND_UNIT && unit[SECOND_UNIT_LENGTH * (units - 1)] == SECOND_KIND_UNIT)
+        return SECOND_KIND_UNIT;
+    if (unit[0] == SECOND_KIND_UNIT_WITH_ENDS && length >= SECOND_UNIT_WITH_ENDS_LENGTH * (size_t)units &&
+        unit[SECOND_UNIT_WITH_ENDS_LENGTH * (units - 1)] == SECOND_KIND_UNIT_WITH_ENDS)
+        return SECOND_KIND_UNIT_WITH_ENDS;
+    return 0;
 }
 
 /* ---- The odd kWh ---- */
@@ -402,8 +500,6 @@ static inline __attribute__((always_inline)) v4 write_4(uint8_t *at, const struc
     return s3;
 }
 
-static const int32_t masks[8] = {0, 0, 0, 0, -1, -1, -1, -1};
-
 int32_t best_check(const uint8_t *day, size_t day_length, const uint8_t *block, size_t block_length, uint8_t *room, size_t room_length);
 int32_t best_check(const uint8_t *day, size_t day_length, const uint8_t *block, size_t block_length, uint8_t *room, size_t room_length)
 {
@@ -419,33 +515,29 @@ int32_t best_check(const uint8_t *day, size_t day_length, const uint8_t *block, 
         block_length < SECOND_GROUP_LENGTH + SECOND_UNIT_LENGTH * (size_t)units || room_length < written)
         return second_check(day, day_length, block, block_length, room, room_length);
 
-    /* What is left over of four at a time is taken again with the units before it. */
     struct columns c;
-    const v4 nothing_before = _mm_set_epi32(0, 0, 0, -1), all = ALL(-1);
-    const unsigned odd = units % 4, last = units - 4;
-    const v4 mine_of_last = LOAD(masks + odd);
+    struct gathered g;
     const uint8_t *const unit = block + SECOND_GROUP_LENGTH;
-    struct gathered g = {ZERO, all, ZERO, ZERO};
-    v4 before = nothing_before;
-    for (unsigned i = 0; i + 4 <= units; i += 4)
-        before = read_4(unit + SECOND_UNIT_LENGTH * i, &c, i, &g, before, all, run, margin_age_limit);
-    if (odd) {
-        read_4(unit + SECOND_UNIT_LENGTH * last, &c, last, &g, nothing_before, mine_of_last, run, margin_age_limit);
-        STORE(c.n1 + units, ZERO);
-        STORE(c.class_of + units, ZERO);
-    }
-    if (!all_set(EQ(g.faults, ZERO)) || !all_set(g.rising))
+    const size_t length = block_length - SECOND_GROUP_LENGTH;
+    const int kind = kind_of_all(unit, length, units);
+    int right = 0;
+    if (kind == SECOND_KIND_UNIT)
+        right = read_units(unit, SECOND_KIND_UNIT, NULL, units, &c, &g, run, margin_age_limit);
+    else if (kind == SECOND_KIND_UNIT_WITH_ENDS)
+        right = read_units(unit, SECOND_KIND_UNIT_WITH_ENDS, NULL, units, &c, &g, run, margin_age_limit);
+    if (!right && !read_both(unit, length, units, &c, &g, run, margin_age_limit))
         return second_check(day, day_length, block, block_length, room, room_length);
 
     const int32_t p = total(g.p), s1 = total(g.s1), high = -p > 0 ? -p : 0, low = -p < 0 ? -p : 0;
     const int32_t excess = s1 > high ? s1 - high : s1 < low ? s1 - low : 0;
     const v4 bar = excess != 0 ? cut(&c, units, excess) : ZERO;
     uint8_t *const result = room + SECOND_GROUP_RESULT_LENGTH;
+    const unsigned odd = units % 4, last = units - 4;
     v4 sums = ZERO;
     for (unsigned i = 0; i + 4 <= units; i += 4)
-        sums = write_4(result + SECOND_UNIT_RESULT_LENGTH * i, &c, i, excess, bar, all, sums);
+        sums = write_4(result + SECOND_UNIT_RESULT_LENGTH * i, &c, i, excess, bar, ALL(-1), sums);
     if (odd)
-        sums = write_4(result + SECOND_UNIT_RESULT_LENGTH * last, &c, last, excess, bar, mine_of_last, sums);
+        sums = write_4(result + SECOND_UNIT_RESULT_LENGTH * last, &c, last, excess, bar, LOAD(masks + odd), sums);
     const int32_t s3 = total(sums);
     memcpy(room, block, 5);
     room[0] = SECOND_KIND_GROUP_RESULT;

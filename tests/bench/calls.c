@@ -28,7 +28,8 @@ static const struct {
 
 enum { PROGRAMS = 3, BLOCKS = 509, FILLER = 0x5A, BEYOND = 64 };
 
-static uint8_t day[FLEHWELLA_DAY_LENGTH], blocks[BLOCKS][FLEHWELLA_BLOCK_MAX], room[FLEHWELLA_RESULT_MAX + BEYOND];
+static uint8_t day[FLEHWELLA_DAY_LENGTH], blocks[BLOCKS][SECOND_BLOCK_MAX], room[FLEHWELLA_RESULT_MAX + BEYOND];
+static size_t block_length; /* of each block of a round */
 
 static void stop(const char *why)
 {
@@ -67,15 +68,14 @@ static int units_told(const char *word)
 static void put_blocks(enum which which, int units)
 {
     for (int i = 0; i < BLOCKS; i++)
-        put_block(blocks[i], 7, 40, which, units, (uint64_t)i + 1);
+        block_length = put_block(blocks[i], 7, 40, which, units, (uint64_t)i + 1);
 }
 
 static void judge_round(int program, int units)
 {
     judge *const call = programs[program].call;
     for (int i = 0; i < BLOCKS; i++)
-        if (call(day, sizeof day, blocks[i], FLEHWELLA_BLOCK_LENGTH((size_t)units), room, FLEHWELLA_RESULT_MAX) !=
-            FLEHWELLA_RESULT_LENGTH(units))
+        if (call(day, sizeof day, blocks[i], block_length, room, FLEHWELLA_RESULT_MAX) != FLEHWELLA_RESULT_LENGTH(units))
             stop("a block is refused");
 }
 
@@ -127,22 +127,59 @@ static int alike(const uint8_t *block, size_t length, size_t room_length)
     return 1;
 }
 
-/* Each block as it is, with a byte changed, cut short, and with too little room. */
+static int32_t number_at(const uint8_t *at)
+{
+    return (int32_t)((uint32_t)at[0] << 24 | (uint32_t)at[1] << 16 | (uint32_t)at[2] << 8 | at[3]);
+}
+
+/* Lays a block anew with units of both kinds in any order, and gives back its length. The ends drawn cross neither each other nor
+ * the margins, but for one in 200, whose working margins do. */
+static size_t mix_kinds(uint8_t *to, const uint8_t *block, uint64_t *draw)
+{
+    const uint8_t *from = block + SECOND_GROUP_LENGTH;
+    uint8_t *const front = to;
+    to = (uint8_t *)memcpy(to, block, SECOND_GROUP_LENGTH) + SECOND_GROUP_LENGTH;
+    for (int i = 0; i < block[5]; i++) {
+        const int32_t m_down = number_at(from + 14), m_up = number_at(from + 18);
+        uint8_t *const unit = memcpy(to, from, SECOND_UNIT_LENGTH);
+        from += from[0] == SECOND_KIND_UNIT ? SECOND_UNIT_LENGTH : SECOND_UNIT_WITH_ENDS_LENGTH;
+        to += SECOND_UNIT_LENGTH;
+        unit[0] = below(2, draw) ? SECOND_KIND_UNIT : SECOND_KIND_UNIT_WITH_ENDS;
+        if (unit[0] == SECOND_KIND_UNIT)
+            continue;
+        const int32_t lower = below(200, draw) ? m_up - below(5000, draw) : m_up + 1;
+        const int32_t upper = (lower > m_down ? lower : m_down) + below(5000, draw);
+        to = put(put(to, 4, (uint32_t)lower), 4, (uint32_t)upper);
+    }
+    return (size_t)(to - front);
+}
+
+/* A block as it is, with a byte changed, cut short, and with too little room: how many of the five are not judged alike. */
+static long differing(uint8_t *block, size_t length, size_t written, uint64_t *draw)
+{
+    long differ = 0;
+    differ += !alike(block, length, FLEHWELLA_RESULT_MAX);
+    differ += !alike(block, length, written);
+    differ += !alike(block, length, written - 1);
+    differ += !alike(block, length - 1 - drawn(draw) % 30, written);
+    block[drawn(draw) % length] ^= (uint8_t)(1 << drawn(draw) % 8);
+    differ += !alike(block, length, written);
+    return differ;
+}
+
+/* Each block, and the same with units of both kinds. */
 static void compare_case(enum which which, uint64_t seeds)
 {
-    uint8_t *const block = blocks[0];
+    uint8_t *const block = blocks[0], *const mixed = blocks[1];
     long compared = 0, differ = 0;
     for (uint64_t seed = 1; seed <= seeds; seed++)
         for (int units = 1; units <= FLEHWELLA_UNITS_MAX; units++) {
             const size_t length = put_block(block, 7, 40, which, units, seed), written = FLEHWELLA_RESULT_LENGTH((size_t)units);
             uint64_t draw = (seed * 64 + (uint64_t)units) * 0x9E3779B97F4A7C15ULL;
-            differ += !alike(block, length, FLEHWELLA_RESULT_MAX);
-            differ += !alike(block, length, written);
-            differ += !alike(block, length, written - 1);
-            differ += !alike(block, length - 1 - drawn(&draw) % 30, written);
-            block[drawn(&draw) % length] ^= (uint8_t)(1 << drawn(&draw) % 8);
-            differ += !alike(block, length, written);
-            compared += 5;
+            const size_t mixed_length = mix_kinds(mixed, block, &draw);
+            differ += differing(block, length, written, &draw);
+            differ += differing(mixed, mixed_length, written, &draw);
+            compared += 10;
         }
     printf("%s %ld %ld\n", case_names[which], compared, differ);
 }
@@ -162,7 +199,7 @@ static void write_day(const char *kind, long count)
     write_bytes(day, sizeof day);
     for (long i = 0; i < count; i++) {
         const int units = 1 + (int)(i * 37 % FLEHWELLA_UNITS_MAX);
-        const enum which which = mixed ? (enum which)((i + i / FLEHWELLA_UNITS_MAX) % CASES) : one; /* from 512 blocks on every case at every size */
+        const enum which which = mixed ? (enum which)((i + i / FLEHWELLA_UNITS_MAX) % CASES) : one; /* from 576 blocks on every case at every size */
         write_bytes(blocks[0], put_block(blocks[0], (int)(i / QUARTERS), (int)(i % QUARTERS), which, units, (uint64_t)i + 1));
     }
     uint8_t end[SECOND_END_LENGTH];
@@ -192,10 +229,9 @@ int main(int words, char **word)
         write_bytes(day, sizeof day);
         write_bytes(blocks[0], put_block(blocks[0], 7, 40, case_named(word[2]), units_told(word[3]), 1));
     } else if (strcmp(what, "blocks") == 0 && words == 4) {
-        const int units = units_told(word[3]);
-        put_blocks(case_named(word[2]), units);
+        put_blocks(case_named(word[2]), units_told(word[3]));
         for (int i = 0; i < BLOCKS; i++)
-            write_bytes(blocks[i], FLEHWELLA_BLOCK_LENGTH((size_t)units));
+            write_bytes(blocks[i], block_length);
     } else if (strcmp(what, "day") == 0 && words == 4) {
         write_day(word[2], atol(word[3]));
     } else {

@@ -1,4 +1,4 @@
-/* Blocks to judge, by case, units and seed: each seed gives other figures. All lie in the limits of document 01. */
+/* Blocks to judge, by case, units and seed: each seed gives other figures. All lie in the limits of documents 01 and 02. */
 #ifndef CASES_H
 #define CASES_H
 
@@ -15,16 +15,18 @@ enum which {
     WORST,  /* one class, and 1 kWh sold in all: remainders differ where sizes do, and all units but one get an odd kWh */
     MSIGN,  /* no cut; half of the units withdraw */
     MNOM,   /* no cut; half of the units are not nominated, and coincide */
-    RANDOM, /* anything valid */
+    RANDOM, /* anything valid without interval ends */
     MCUT,   /* a cut; class, direction and what is sold differ from unit to unit */
     TIED,   /* one class, odd sizes that rise, half of the total sold: from 2 units on remainders are equal, and half of them get an odd kWh */
+    ENDS,   /* as NOCUT, but every unit has interval ends, and they are narrower than its margins */
     CASES
 };
-static const char *const case_names[CASES] = {"nocut", "into1", "worst", "msign", "mnom", "random", "mcut", "tied"};
+static const char *const case_names[CASES] = {"nocut", "into1", "worst", "msign", "mnom", "random", "mcut", "tied", "ends"};
 
+/* A unit of kind 03h has no ends. */
 struct unit {
-    int class_of, coincide, nominated;
-    int32_t n, pc, m_down, m_up;
+    int kind, class_of, coincide, nominated;
+    int32_t n, pc, m_down, m_up, lower, upper;
 };
 
 static inline uint8_t *put(uint8_t *at, int bytes, uint32_t value)
@@ -62,7 +64,7 @@ static inline int32_t below(int32_t bound, uint64_t *seed)
 static inline struct unit unit_of(enum which which, int i, int units, uint64_t *seed)
 {
     const int32_t size = 1000 + (i * 997 + below(1013, seed)) % 1013;
-    struct unit u = {i % 2, 0, 1, size, -size, -5000, 5000};
+    struct unit u = {0x03, i % 2, 0, 1, size, -size, -5000, 5000, 0, 0};
     switch (which) {
     case INTO1: /* a unit that is alone sells half, though it is of class 0 */
         u.pc = units == 1 || u.class_of ? -size / 2 : 0;
@@ -106,6 +108,11 @@ static inline struct unit unit_of(enum which which, int i, int units, uint64_t *
         u.n = 1001 + 32 * i + 2 * below(16, seed) + (units % 2 == 1 && i == units - 1);
         u.pc = -(u.n + i % 2) / 2;
         break;
+    case ENDS:
+        u.kind = 0x04;
+        u.lower = -4000;
+        u.upper = 4000;
+        break;
     default:
         break;
     }
@@ -127,7 +134,7 @@ static inline size_t put_block(uint8_t *at, int brp, int quarter, enum which whi
     at = put(at, 4, MADE);
     for (int i = 0; i < units; i++) {
         const struct unit u = unit_of(which, i, units, &seed);
-        at = put(at, 1, 0x03);
+        at = put(at, 1, (uint32_t)u.kind);
         at = put(at, 2, (uint32_t)(10 + 3 * i));
         at = put(at, 1, (uint32_t)u.class_of);
         at = put(at, 1, (uint32_t)u.coincide);
@@ -137,6 +144,8 @@ static inline size_t put_block(uint8_t *at, int brp, int quarter, enum which whi
         at = put(at, 4, (uint32_t)u.m_down);
         at = put(at, 4, (uint32_t)u.m_up);
         at = put(at, 4, MADE);
+        if (u.kind == 0x04)
+            at = put(put(at, 4, (uint32_t)u.lower), 4, (uint32_t)u.upper);
     }
     return (size_t)(at - front);
 }

@@ -1,6 +1,7 @@
 /* The list of a day in C over best.c: its rest is written for speed too, with large reads and writes and two digits at a time.
  * It is for valid days alone: at a refusal it stops with status 1 and no line of it. usage: list <DAY >LIST */
 #define _POSIX_C_SOURCE 200809L
+#include "../second/second.h"
 #include "flehwella.h"
 
 #include <stdint.h>
@@ -99,6 +100,15 @@ static struct {
     int64_t last;
 } day = {FRESH, {0}, 0, -1};
 
+/* The length of a block that was accepted, each of whose units goes by its own kind. */
+static inline size_t block_length(const uint8_t *block)
+{
+    const uint8_t *unit = block + SECOND_GROUP_LENGTH;
+    for (int i = 0; i < block[5]; i++)
+        unit += unit[0] == SECOND_KIND_UNIT ? SECOND_UNIT_LENGTH : SECOND_UNIT_WITH_ENDS_LENGTH;
+    return (size_t)(unit - block);
+}
+
 /* The line of the record, or those of the block, in front of the bytes; `from` moves past it. */
 static uint8_t *front_lines(uint8_t *to, const uint8_t **from, size_t length)
 {
@@ -110,7 +120,7 @@ static uint8_t *front_lines(uint8_t *to, const uint8_t **from, size_t length)
             exit(1);
         day.last = key;
         day.groups++;
-        *from += FLEHWELLA_BLOCK_LENGTH((size_t)room[COUNT]);
+        *from += block_length(at);
         return result_lines(to, room);
     }
     if (day.state == FRESH && at[0] == 0x01 && length >= sizeof day.record) {
@@ -139,7 +149,7 @@ int main(void)
     uint8_t *to = out;
     size_t length = 0;
     for (int ended = 0; !ended || length > 0;) {
-        if (!ended && length < FLEHWELLA_BLOCK_MAX) {
+        if (!ended && length < SECOND_BLOCK_MAX) {
             memmove(in, from, length);
             from = in;
             const ssize_t got = read(0, in + length, sizeof in - length);

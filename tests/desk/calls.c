@@ -8,9 +8,12 @@
 #include <string.h>
 #include <sys/mman.h>
 
-enum { CALL = 9, HEAD = 5, BODY_MAX = 8192, ROOM_MAX = 2048, PIECE = 65536, FILLER = 0xA5 };
+enum { CALL = 9, HEAD = 5, BODY_MAX = 8192, ROOM_MAX = 2304, PIECE = 65536, FILLER = 0xA5 };
 
-_Static_assert(FLEHWELLA_BLOCK_LENGTH(FLEHWELLA_UNITS_MAX) == FLEHWELLA_BLOCK_MAX, "the longest block");
+_Static_assert(FLEHWELLA_MIXED_LENGTH(0, FLEHWELLA_UNITS_MAX) == FLEHWELLA_BLOCK_MAX, "the longest block");
+_Static_assert(FLEHWELLA_MIXED_LENGTH(FLEHWELLA_UNITS_MAX, 0) == FLEHWELLA_BLOCK_LENGTH(FLEHWELLA_UNITS_MAX), "03h alone");
+_Static_assert(FLEHWELLA_MIXED_LENGTH(1, 1) == 70 && FLEHWELLA_MIXED_LENGTH(1 + 1, 2 + 1) == 164, "both kinds");
+_Static_assert(FLEHWELLA_BLOCK_LENGTH(1) == 36 && FLEHWELLA_BLOCK_MAX == 2186, "what document 01 and request 3 say");
 _Static_assert(FLEHWELLA_RESULT_LENGTH(FLEHWELLA_UNITS_MAX) == FLEHWELLA_RESULT_MAX, "the longest result");
 
 /* The end of a piece of PIECE bytes, before a page that is shut. */

@@ -41,7 +41,7 @@ static int32_t signed32(uint32_t bits)
 
 /* ---- Probe: memory lent to a call --------------------------------------- */
 
-enum { BODY_MAX = 8192, ROOM_MAX = 2048, COLUMN_MAX = 80, FILLER = 0xA5 };
+enum { BODY_MAX = 8192, ROOM_MAX = 2304, COLUMN_MAX = 80, FILLER = 0xA5 };
 
 /* Each piece lent is its own exact allocation, so that a sanitised build sees
  * every byte read or written beyond it. */
@@ -396,8 +396,8 @@ static void probe_write_block(body *b)
     key.zone = take_u8(b);
     key.quarter = take_u8(b);
     const uint32_t positions_made = take_u32(b);
-    size_t length[9];
-    for (size_t i = 0; i < 9; i++)
+    size_t length[12];
+    for (size_t i = 0; i < 12; i++)
         length[i] = take_at_most(b, COLUMN_MAX);
     const size_t room_len = take_room_length(b);
     second_unit_columns units;
@@ -410,6 +410,9 @@ static void probe_write_block(body *b)
     units.m_down = take_i32s(b, length[6]);
     units.m_up = take_i32s(b, length[7]);
     units.made = take_u32s(b, length[8]);
+    units.kind = take_u8s(b, length[9]);
+    units.lower = take_i32s(b, length[10]);
+    units.upper = take_i32s(b, length[11]);
     if (!whole(b))
         return;
 

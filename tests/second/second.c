@@ -1,7 +1,7 @@
-/* The ways in of document 01, with requests 2 ("late or early"), 4 ("implicit
- * nominations we missed") and 6 ("the small engine always loses the odd kWh") of
- * document 02. The parts follow the sections of 01: quantities and signs, the
- * steps, house records, the table of the day, ways in. */
+/* The ways in of document 01, with requests 2 ("late or early"), 3 ("feasibility
+ * intervals of their own"), 4 ("implicit nominations we missed") and 6 ("the small
+ * engine always loses the odd kWh") of document 02. The parts follow the sections of
+ * 01: quantities and signs, the steps, house records, the table of the day, ways in. */
 #include "second.h"
 
 #include <stdbool.h>
@@ -18,7 +18,7 @@ enum {
     NUMBER_NOT_RISING = 6,
     BAD_CHOICE = 7,
     OUT_OF_RANGE = 8,
-    MARGINS_CROSSED = 9,
+    ENDS_CROSSED = 9, /* of the margins or of the interval, or not the full ones of a 03h */
     POSITION_STALE = 10,
     MARGINS_STALE = 11,
     ROOM_SHORT = 12,
@@ -26,7 +26,8 @@ enum {
     BAD_END_COUNT = 14,
     UNEQUAL_COLUMNS = 15,
     POSITION_AHEAD = 17, /* 16 belongs to a request of 02 that is not in here */
-    MARGINS_AHEAD = 18
+    MARGINS_AHEAD = 18,
+    WORKING_MARGINS_CROSSED = 19
 };
 
 static const second_refusal accepted = {0, 0};
@@ -290,7 +291,7 @@ second_refusal second_columns(second_i32s n0, second_i32s pc, second_i32s m_down
             !in_range(m_up.at[i]))
             return refuse(OUT_OF_RANGE, i);
         if (m_down.at[i] > m_up.at[i])
-            return refuse(MARGINS_CROSSED, i);
+            return refuse(ENDS_CROSSED, i);
     }
     judge(count, n0.at, pc.at, m_down.at, m_up.at, class_of.at, n1.at, n2.at, n3.at,
           totals);
@@ -344,20 +345,52 @@ enum {
     UNIT_AT_M_DOWN = 14,
     UNIT_AT_M_UP = 18,
     UNIT_AT_MADE = 22,
+    UNIT_AT_LOWER = 26,
+    UNIT_AT_UPPER = 30,
 
     END_AT_COUNT = 1
 };
 
+/* A unit carries its kind and both interval ends, so that it writes back as it
+ * came; that of a 03h has the full ends, which narrow no margin. */
 typedef struct {
+    uint8_t kind;
     uint16_t number;
     uint8_t class_of, coincide, nominated;
     int32_t n, pc, m_down, m_up;
     uint32_t made;
+    int32_t lower, upper;
 } unit;
+
+enum { FULL_LOWER = -QUANTITY_MAX, FULL_UPPER = QUANTITY_MAX };
+
+static bool unit_kind_permitted(uint8_t kind)
+{
+    return kind == SECOND_KIND_UNIT || kind == SECOND_KIND_UNIT_WITH_ENDS;
+}
+
+/* The length of a unit record of one of the two kinds. */
+static size_t unit_length(uint8_t kind)
+{
+    return kind == SECOND_KIND_UNIT ? SECOND_UNIT_LENGTH : SECOND_UNIT_WITH_ENDS_LENGTH;
+}
+
+/* The margins that the steps and the reasons read. */
+static int32_t working_m_down(const unit *u)
+{
+    return u->m_down > u->lower ? u->m_down : u->lower;
+}
+
+static int32_t working_m_up(const unit *u)
+{
+    return u->m_up < u->upper ? u->m_up : u->upper;
+}
 
 static unit get_unit(const uint8_t *at)
 {
+    const bool with_ends = at[0] == SECOND_KIND_UNIT_WITH_ENDS;
     const unit u = {
+        .kind = at[0],
         .number = get_u16(at + UNIT_AT_NUMBER),
         .class_of = at[UNIT_AT_CLASS],
         .coincide = at[UNIT_AT_COINCIDE],
@@ -367,13 +400,15 @@ static unit get_unit(const uint8_t *at)
         .m_down = get_i32(at + UNIT_AT_M_DOWN),
         .m_up = get_i32(at + UNIT_AT_M_UP),
         .made = get_u32(at + UNIT_AT_MADE),
+        .lower = with_ends ? get_i32(at + UNIT_AT_LOWER) : FULL_LOWER,
+        .upper = with_ends ? get_i32(at + UNIT_AT_UPPER) : FULL_UPPER,
     };
     return u;
 }
 
 static void put_unit(uint8_t *at, const unit *u)
 {
-    at[0] = SECOND_KIND_UNIT;
+    at[0] = u->kind;
     put_u16(at + UNIT_AT_NUMBER, u->number);
     at[UNIT_AT_CLASS] = u->class_of;
     at[UNIT_AT_COINCIDE] = u->coincide;
@@ -383,11 +418,18 @@ static void put_unit(uint8_t *at, const unit *u)
     put_i32(at + UNIT_AT_M_DOWN, u->m_down);
     put_i32(at + UNIT_AT_M_UP, u->m_up);
     put_u32(at + UNIT_AT_MADE, u->made);
+    if (u->kind == SECOND_KIND_UNIT_WITH_ENDS) {
+        put_i32(at + UNIT_AT_LOWER, u->lower);
+        put_i32(at + UNIT_AT_UPPER, u->upper);
+    }
 }
 
-/* The checks that reader and block writer share, in their order 6, 7, 8, 9. The
- * place is that within the unit record. The first unit has none before it. */
-static second_refusal check_unit(const unit *u, bool first, uint16_t number_before)
+/* The checks that reader and block writer share, in their order 6, 7, 8, 9, 19. The
+ * place is that within the unit record. The first unit has none before it. The full
+ * ends are in range and in order and cross no margin, so that others alone are looked
+ * at; a 03h that was read has them, so that only the writer can refuse its ends.
+ * Inline, so that a compiler keeps a unit that was read in registers. */
+static inline second_refusal check_unit(const unit *u, bool first, uint16_t number_before)
 {
     if (!first && u->number <= number_before)
         return refuse(NUMBER_NOT_RISING, UNIT_AT_NUMBER);
@@ -409,9 +451,21 @@ static second_refusal check_unit(const unit *u, bool first, uint16_t number_befo
         return refuse(OUT_OF_RANGE, UNIT_AT_M_DOWN);
     if (!in_range(u->m_up))
         return refuse(OUT_OF_RANGE, UNIT_AT_M_UP);
+    const bool full = u->lower == FULL_LOWER && u->upper == FULL_UPPER;
+    if (!full && !in_range(u->lower))
+        return refuse(OUT_OF_RANGE, UNIT_AT_LOWER);
+    if (!full && !in_range(u->upper))
+        return refuse(OUT_OF_RANGE, UNIT_AT_UPPER);
 
     if (u->m_down > u->m_up)
-        return refuse(MARGINS_CROSSED, UNIT_AT_M_UP);
+        return refuse(ENDS_CROSSED, UNIT_AT_M_UP);
+    if (full)
+        return accepted;
+    if (u->lower > u->upper || u->kind == SECOND_KIND_UNIT)
+        return refuse(ENDS_CROSSED, UNIT_AT_UPPER);
+
+    if (working_m_down(u) > working_m_up(u))
+        return refuse(WORKING_MARGINS_CROSSED, UNIT_AT_LOWER);
     return accepted;
 }
 
@@ -450,24 +504,27 @@ static second_refusal open_record(second_state state, const uint8_t *bytes, size
     return refuse(KIND_NOT_PERMITTED, at);
 }
 
-/* The same order for the unit record of a block that starts at `at`. */
+/* The same order for the unit record of a block that starts at `at`: either kind
+ * may come, and whether it is cut short goes by its own length. */
 static second_refusal open_unit(const uint8_t *bytes, size_t len, size_t at)
 {
     if (at == len)
         return refuse(CUT_SHORT, len);
-    if (bytes[at] != SECOND_KIND_UNIT)
+    if (!unit_kind_permitted(bytes[at]))
         return refuse(KIND_NOT_PERMITTED, at);
-    if (len - at < SECOND_UNIT_LENGTH)
+    if (len - at < unit_length(bytes[at]))
         return refuse(CUT_SHORT, len);
     return accepted;
 }
 
 /* ---- Ways in: one record or block, offered to a day --------------------- */
 
-/* A block whose checks have passed, as the columns that the steps work on. */
+/* A block whose checks have passed, as the columns that the steps work on; the
+ * margins are the working ones. */
 typedef struct {
     second_key key;
     size_t count;
+    size_t length; /* of its records together */
     uint16_t number[SECOND_UNITS_MAX];
     uint8_t class_of[SECOND_UNITS_MAX];
     bool implicit[SECOND_UNITS_MAX];
@@ -477,20 +534,15 @@ typedef struct {
     int32_t m_up[SECOND_UNITS_MAX];
 } block;
 
-/* Lengths of a block and its result; also the places of unit record and unit
- * result number `count`, counted from 0. */
-static size_t block_length(size_t count)
-{
-    return SECOND_GROUP_LENGTH + count * SECOND_UNIT_LENGTH;
-}
-
+/* The length of a result, and the place of unit result number `count`, counted
+ * from 0. */
 static size_t result_length(size_t count)
 {
     return SECOND_GROUP_RESULT_LENGTH + count * SECOND_UNIT_RESULT_LENGTH;
 }
 
 /* The fields of a block whose group record is whole. Group: 4, 5, 13, 17 or 10;
- * each unit in turn: 2 and 1, then 6, 7, 8, 9, 18 or 11. Stale and ahead cannot
+ * each unit in turn: 2 and 1, then 6, 7, 8, 9, 19, 18 or 11. Stale and ahead cannot
  * both be true of one stamp, so that they share a rank and a place. */
 static second_refusal read_block(const second_day *day, const uint8_t *bytes, size_t len,
                                  block *b)
@@ -514,8 +566,8 @@ static second_refusal read_block(const second_day *day, const uint8_t *bytes, si
         return refuse(POSITION_STALE, GROUP_AT_POSITIONS_MADE);
 
     uint16_t number_before = 0;
+    size_t at = SECOND_GROUP_LENGTH;
     for (size_t i = 0; i < b->count; i++) {
-        const size_t at = block_length(i);
         second_refusal refusal = open_unit(bytes, len, at);
         if (refusal.number != 0)
             return refusal;
@@ -536,9 +588,11 @@ static second_refusal read_block(const second_day *day, const uint8_t *bytes, si
         b->implicit[i] = implicit_taken(u.nominated, u.coincide, u.class_of);
         b->n0[i] = considered(u.nominated, b->implicit[i], u.n, u.pc);
         b->pc[i] = u.pc;
-        b->m_down[i] = u.m_down;
-        b->m_up[i] = u.m_up;
+        b->m_down[i] = working_m_down(&u);
+        b->m_up[i] = working_m_up(&u);
+        at += unit_length(u.kind);
     }
+    b->length = at;
     return accepted;
 }
 
@@ -630,7 +684,7 @@ static second_refusal offer_block(second_day *day, const uint8_t *bytes, size_t 
     day->groups++;
     day->seen = 1;
     day->last = b.key;
-    taken->used = block_length(b.count);
+    taken->used = b.length;
     taken->written = result_length(b.count);
     return accepted;
 }
@@ -683,7 +737,7 @@ second_refusal second_check_block(const second_day *day, const uint8_t *bytes, s
     refusal = read_block(day, bytes, len, &b);
     if (refusal.number != 0)
         return refusal;
-    taken->used = block_length(b.count);
+    taken->used = b.length;
     taken->written = result_length(b.count);
     return accepted;
 }
@@ -722,12 +776,15 @@ static unit unit_of_columns(const second_unit_columns *units, size_t i)
         .m_down = units->m_down.at[i],
         .m_up = units->m_up.at[i],
         .made = units->made.at[i],
+        .kind = units->kind.at[i],
+        .lower = units->lower.at[i],
+        .upper = units->upper.at[i],
     };
     return u;
 }
 
-/* Order: 15, 4, 5, per unit 6, 7, 8, 9, then 12; a unit's place is its index. No
- * age and no order of blocks is judged, since no day is at hand. */
+/* Order: 15, 4, 5, per unit 2, 6, 7, 8, 9, 19, then 12; a unit's place is its index.
+ * No age and no order of blocks is judged, since no day is at hand. */
 second_refusal second_write_block(second_key key, uint32_t positions_made,
                                   const second_unit_columns *units, uint8_t *room,
                                   size_t room_len, size_t *written)
@@ -738,20 +795,26 @@ second_refusal second_write_block(second_key key, uint32_t positions_made,
     if (units->class_of.len != count || units->coincide.len != count ||
         units->nominated.len != count || units->n.len != count ||
         units->pc.len != count || units->m_down.len != count ||
-        units->m_up.len != count || units->made.len != count)
+        units->m_up.len != count || units->made.len != count ||
+        units->kind.len != count || units->lower.len != count ||
+        units->upper.len != count)
         return refuse(UNEQUAL_COLUMNS, 0);
     if (key.quarter >= WRITER_QUARTERS)
         return refuse(BAD_QUARTER, 0);
     if (!count_permitted(count))
         return refuse(BAD_UNIT_COUNT, 0);
+    size_t length = SECOND_GROUP_LENGTH;
     for (size_t i = 0; i < count; i++) {
         const unit u = unit_of_columns(units, i);
+        if (!unit_kind_permitted(u.kind))
+            return refuse(KIND_NOT_PERMITTED, i);
         const second_refusal refusal =
             check_unit(&u, i == 0, i == 0 ? 0 : units->number.at[i - 1]);
         if (refusal.number != 0)
             return refuse(refusal.number, i);
+        length += unit_length(u.kind);
     }
-    if (room_len < block_length(count))
+    if (room_len < length)
         return refuse(ROOM_SHORT, 0);
 
     room[0] = SECOND_KIND_GROUP;
@@ -760,11 +823,13 @@ second_refusal second_write_block(second_key key, uint32_t positions_made,
     room[GROUP_AT_QUARTER] = key.quarter;
     room[GROUP_AT_COUNT] = (uint8_t)count;
     put_u32(room + GROUP_AT_POSITIONS_MADE, positions_made);
+    uint8_t *at = room + SECOND_GROUP_LENGTH;
     for (size_t i = 0; i < count; i++) {
         const unit u = unit_of_columns(units, i);
-        put_unit(room + block_length(i), &u);
+        put_unit(at, &u);
+        at += unit_length(u.kind);
     }
-    *written = block_length(count);
+    *written = length;
     return accepted;
 }
 
@@ -787,7 +852,8 @@ static second_step step_refused(second_refusal refusal)
     return step;
 }
 
-/* The record's order, of the fields only 5, then each unit's 2 and 1. */
+/* The record's order, of the fields only 5, then each unit's 2 and 1, by its own
+ * kind. */
 second_step second_next(const uint8_t *bytes, size_t len, second_state state, size_t place)
 {
     const size_t at = place < len ? place : len;
@@ -807,11 +873,11 @@ second_step second_next(const uint8_t *bytes, size_t len, second_state state, si
         if (!count_permitted(count))
             return step_refused(refuse(BAD_UNIT_COUNT, at + GROUP_AT_COUNT));
         for (size_t i = 0; i < count; i++) {
-            refusal = open_unit(bytes, len, at + block_length(i));
+            refusal = open_unit(bytes, len, at + length);
             if (refusal.number != 0)
                 return step_refused(refusal);
+            length += unit_length(bytes[at + length]);
         }
-        length = block_length(count);
     }
     const second_step step = {
         .outcome = SECOND_EXTENT,

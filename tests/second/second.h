@@ -1,5 +1,5 @@
-/* The second program: the ways in of document 01 ("Ways in"), with requests 2, 4
- * and 6 of document 02 in place, written from the documents alone so that the
+/* The second program: the ways in of document 01 ("Ways in"), with requests 2, 3,
+ * 4 and 6 of document 02 in place, written from the documents alone so that the
  * proved product can be compared with it in bulk.
  * This header is what a program that links second.o may use. */
 #ifndef SECOND_H
@@ -8,16 +8,19 @@
 #include <stddef.h>
 #include <stdint.h>
 
-/* Lengths of house records, and what follows from at most 64 units a group. */
+/* Lengths of house records, and what follows from at most 64 units a group, each
+ * of them with interval ends in the longest block. */
 enum {
     SECOND_DAY_LENGTH = 12,
     SECOND_GROUP_LENGTH = 10,
     SECOND_UNIT_LENGTH = 26,
+    SECOND_UNIT_WITH_ENDS_LENGTH = 34,
     SECOND_END_LENGTH = 5,
     SECOND_GROUP_RESULT_LENGTH = 27,
     SECOND_UNIT_RESULT_LENGTH = 20,
     SECOND_UNITS_MAX = 64,
-    SECOND_BLOCK_MAX = SECOND_GROUP_LENGTH + SECOND_UNITS_MAX * SECOND_UNIT_LENGTH,
+    SECOND_BLOCK_MAX =
+        SECOND_GROUP_LENGTH + SECOND_UNITS_MAX * SECOND_UNIT_WITH_ENDS_LENGTH,
     SECOND_RESULT_MAX =
         SECOND_GROUP_RESULT_LENGTH + SECOND_UNITS_MAX * SECOND_UNIT_RESULT_LENGTH
 };
@@ -27,6 +30,7 @@ enum {
     SECOND_KIND_DAY = 0x01,
     SECOND_KIND_GROUP = 0x02,
     SECOND_KIND_UNIT = 0x03,
+    SECOND_KIND_UNIT_WITH_ENDS = 0x04,
     SECOND_KIND_END = 0x0F,
     SECOND_KIND_GROUP_RESULT = 0x11,
     SECOND_KIND_UNIT_RESULT = 0x12
@@ -121,6 +125,8 @@ typedef struct {
     second_u8s class_of, coincide, nominated;
     second_i32s n, pc, m_down, m_up;
     second_u32s made;
+    second_u8s kind;
+    second_i32s lower, upper; /* interval ends; of a 03h the full ones */
 } second_unit_columns;
 
 second_refusal second_write_block(second_key key, uint32_t positions_made,

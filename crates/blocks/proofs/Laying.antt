@@ -1,6 +1,7 @@
 -- The loop that lays the units' results: they lie one after another in the room, and the places are those of the unit and the result that come next.
 use Prim.Native.Nat.{ℕ, _+_, _*_, _≤_, _<_}
 use mathlib.Core.Path.{_≡_, refl, sym, ap, _∙_}
+use mathlib.Core.Bool.{true}
 use mathlib.Core.List.{List}
 use native.Mathlib.Numerals.{add-one}
 use native.Mathlib.Omega.{arith}
@@ -12,6 +13,8 @@ use mir.Facts.{toZ-ofZ}
 use Rattle.numbers.specs.Bytes.{bytes32, bits32, laidAt}
 use Rattle.records.specs.Layouts.{groupLength, groupResultLength, unitResultLength, unitAt, unitResultBytes}
 use Rattle.records.specs.Reading.{unitEnd, placeFrom, unitPlace, unitIn}
+use Rattle.records.specs.Inner.{isWhole}
+use Rattle.records.proofs.UnitHeads.{whole-long}
 use Rattle.writers.specs.Results.{resultFrom}
 use Rattle.writers.proofs.Lengths.{length-unit-result}
 use Rattle.writers.proofs.Runs as runs
@@ -42,10 +45,13 @@ module _ (s why : List ℕ) (n0 x1 x2 x3 : List ℤ) where
         record { laid = runs.start resultAt (length n0) groupResultLength entry (omega (arith, p .enough)); place = refl }
 
     module _ {room : List ℕ} {here to i : ℕ} (g : Going entry room here to i) (l : i < length n0) where
+      pub lies : isWhole s here ≡ true
+      lies = rw (g .place) (p .there i l)
+
       pub there : UnitLaying s here why n0 x1 x2 x3 i room to
       there =
           record {
-            bytes = rw (g .place) (p .bytes i l);
+            bytes = whole-long s here lies;
             below = l;
             whys = p .whys;
             firsts = p .firsts;
@@ -55,13 +61,14 @@ module _ (s why : List ℕ) (n0 x1 x2 x3 : List ℤ) where
             enough = omega (arith, runs.next-fits resultAt (length n0) groupResultLength entry i (g .laid) l, each i);
           }
 
-      pub turns : {next : List ℕ} → next ≡ laidAt room to (unitResultBytes (resultFrom (unitAt s here .number) why n0 x1 x2 x3 i))
-          → Going entry next (unitEnd s here) (to + unitResultLength) (i + 1)
+      -- the next unit begins where this one ends
+      pub turns : {next : List ℕ} {end : ℕ} → end ≡ unitEnd s here → next ≡ laidAt room to (unitResultBytes (resultFrom (unitAt s here .number) why n0 x1 x2 x3 i))
+          → Going entry next end (to + unitResultLength) (i + 1)
       unfolding placeFrom
-      turns e =
+      turns f e =
           record {
             laid = rw (each i) at (runs.turn resultAt (length n0) groupResultLength entry i (g .laid) l (rw (g .place) at e));
-            place = ap (unitEnd s) (g .place) ∙ ap (placeFrom s groupLength) (sym (add-one i));
+            place = f ∙ ap (unitEnd s) (g .place) ∙ ap (placeFrom s groupLength) (sym (add-one i));
           }
 
     pub ends : {room : List ℕ} {here to i : ℕ} → Going entry room here to i → length n0 ≤ i → room ≡ laidAt entry groupResultLength (laidUnits s why n0 x1 x2 x3)

@@ -149,7 +149,7 @@ module _ {s : List ℕ} {p : ℤ} {cut : Cut} {taken : List ℕ} {n0 x1 : List �
             let n = sym start-count in
             record {
               few = few;
-              bytes = λ i l. unit-there (w .passed) i (omega (arith, start-count));
+              there = λ i l. unit-there (w .passed) i (omega (arith, start-count));
               whys = why-count;
               firsts = first-count ∙ n;
               seconds = second-count ∙ n;

@@ -6,7 +6,7 @@ use mathlib.Core.List.{List}
 use native.Mathlib.Omega.{arith}
 use native.Mathlib.Numerals.{add-one}
 use lib.IntN.{ℤ, _+ℤ_}
-use lib.ListN.{length, set}
+use lib.ListN.{length}
 use mir.Syntax.{w32}
 use mir.Val.{SFits, toZ, ofZ, boolByte}
 use mir.ValLaws.{toZ-ofZ}
@@ -24,16 +24,18 @@ use Rattle.terms.proofs.FirstRefused.{Left}
 use Rattle.group.proofs.Amounts.{faults-none, none-faulty}
 use Rattle.records.specs.declared.day.DayRecord.{DayRecord}
 use Rattle.records.specs.declared.unit.UnitRecord.{UnitRecord}
-use Rattle.records.specs.Layouts.{groupLength, lengthOf, marginsOf, unitAt}
-use Rattle.records.specs.Reading.{unitEnd, placeFrom, unitPlace, unitIn, unitOf, unitFaults}
+use Rattle.records.specs.Layouts.{groupLength, isUnit, marginsOf, unitAt}
+use Rattle.records.specs.Reading.{unitEnd, placeFrom, unitPlace, unitIn, unitOf, endsFit, unitFaults}
 use Rattle.records.specs.Decoding.{unitN0, unitImplicit, pcIn}
-use Rattle.records.specs.Inner.{isWhole, marksPass}
-use Rattle.records.proofs.Accepted.{Sound, unit-in, unit-whole}
-use Rattle.records.proofs.Marks.{Marked, marks-enough, unit-read}
+use Rattle.records.specs.Inner.{isPlain, isInterval, isWhole, marksPass}
+use Rattle.records.proofs.Accepted as accepted
+use Rattle.records.proofs.Accepted.{Sound, unit-in}
+use Rattle.records.proofs.UnitHeads.{kind-known, ends-fit, unit-lies}
+use Rattle.records.proofs.Marks.{marked, marks-enough, unit-read, read-marked}
 use Rattle.records.proofs.Turns.{unitsAfter, units-steps}
 use Rattle.blocks.specs.Blocks.{blockCount}
 use Rattle.blocks.specs.declared.decode.Reading.{Reading}
-use Rattle.blocks.specs.Inner.{Begun, Passed, UnitRoom, Decoded, Amounts, unitsAt, UnitsRead}
+use Rattle.blocks.specs.Inner.{Begun, Passed, UnitRoom, TakenIn, ReadTo, Decoded, Amounts, unitsAt, UnitsRead}
 use Rattle.blocks.proofs.Filling.{Filled, fill-none, fill-more, fill-all}
 
 -- the unit of an index passed its checks, and lies whole in the block
@@ -41,8 +43,8 @@ module _ {s : List ℕ} (b : Passed s) where
   pub unit-sound : (i : ℕ) → i < blockCount s → Sound (unitIn s i)
   unit-sound = unit-in s (b .day) (blockCount s) (b .long) (b .units)
 
-  pub unit-there : (i : ℕ) → i < blockCount s → unitEnd s (unitPlace s i) ≤ length s
-  unit-there = unit-whole s (b .day) (blockCount s) (b .long) (b .units)
+  pub unit-there : (i : ℕ) → i < blockCount s → isWhole s (unitPlace s i) ≡ true
+  unit-there = accepted.unit-there s (b .day) (blockCount s) (b .long) (b .units)
 
 -- a mark is the number that it adds to a reason
 pub mark : (b : Bool) → boolByte b ≡ bit b
@@ -76,7 +78,7 @@ amounts-passed s day b e i l =
     let u = unit-in s day (blockCount s) (b .long) e i l in
     none-faulty _ _ (u .n0) (u .step-down) (u .step-up) (u .ordered)
 
-module _ (s : List ℕ) (day : DayRecord) (class₀ taken₀ : List ℕ) (n0₀ down₀ up₀ : List ℤ) where
+module _ (s : List ℕ) (day : DayRecord) where
   abbrev count : ℕ
   count = blockCount s
 
@@ -87,13 +89,13 @@ module _ (s : List ℕ) (day : DayRecord) (class₀ taken₀ : List ℕ) (n0₀ 
     pub place : here ≡ unitPlace s i
     pub left : ((j : ℕ) → j < i → Amounts s j) → Left (unitsAfter s day) (unitsAt s day) count i (here, floor)
     pub sold : Added (λ (k : ℕ). unitIn s k .pc .0) i p
-    pub classes : Filled (λ (k : ℕ). unitIn s k .class) count i class₀ class
-    pub marks : Filled (λ (k : ℕ). bit (unitImplicit (unitIn s k))) count i taken₀ taken
-    pub starts : Filled (λ (k : ℕ). unitN0 (unitIn s k)) count i n0₀ n0
-    pub downs : Filled (λ (k : ℕ). marginsOf (unitIn s k) .«step_down») count i down₀ down
-    pub ups : Filled (λ (k : ℕ). marginsOf (unitIn s k) .«step_up») count i up₀ up
+    pub classes : Filled (λ (k : ℕ). unitIn s k .class) count i class
+    pub marks : Filled (λ (k : ℕ). bit (unitImplicit (unitIn s k))) count i taken
+    pub starts : Filled (λ (k : ℕ). unitN0 (unitIn s k)) count i n0
+    pub downs : Filled (λ (k : ℕ). marginsOf (unitIn s k) .«step_down») count i down
+    pub ups : Filled (λ (k : ℕ). marginsOf (unitIn s k) .«step_up») count i up
 
-  pub start : Begun s → UnitRoom count class₀ taken₀ n0₀ down₀ up₀ → Going class₀ taken₀ n0₀ down₀ up₀ groupLength 0 0 0
+  pub start : {class taken : List ℕ} {n0 down up : List ℤ} → Begun s → UnitRoom count class taken n0 down up → Going class taken n0 down up groupLength 0 0 0
   unfolding sumZ column placeFrom
   start b r =
       record {
@@ -116,9 +118,18 @@ module _ (s : List ℕ) (day : DayRecord) (class₀ taken₀ : List ℕ) (n0₀ 
     pub below : i < length n0 → i < count
     below h = omega (arith, g .starts .long)
 
+    pub past : length n0 ≤ i → count ≤ i
+    past h = omega (arith, g .starts .long)
+
+    -- there is an entry for the unit in each column
+    pub room : i < length n0 → UnitRoom (length n0) class taken n0 down up × ((i < length n0) × (length n0 ≤ mostUnits))
+    room h =
+        let n = sym (g .starts .long) in
+        (record { classes = g .classes .long ∙ n; marks = g .marks .long ∙ n; starts = refl; downs = g .downs .long ∙ n; ups = g .ups .long ∙ n }, (h, omega (arith, g .starts .long, g .begun .few)))
+
     module _ (l : i < count) where
       -- a unit here that is not whole, or whose marks do not pass, is refused: so the units do not pass
-      pub stopped : ((u : UnitRecord) → unitOf s here floor day ≡ is u → ⊥) → (end : ℕ) → unitsAt s day ≡ is end → ⊥
+      stopped : ((u : UnitRecord) → unitOf s here floor day ≡ is u → ⊥) → (end : ℕ) → unitsAt s day ≡ is end → ⊥
       stopped unread end e =
           let all = amounts-passed s day (g .begun) e in
           go (g .left (λ j k. all j (omega arith))) (unitOf s here floor day) refl
@@ -127,37 +138,68 @@ module _ (s : List ℕ) (day : DayRecord) (class₀ taken₀ : List ℕ) (n0₀ 
           go left (is u) q = unread u q
           go left (refused n k) q = never (reading.stop (units-steps s day) count i left l q ∙ e)
 
-      -- the values of the unit of index i are stored
-      pub turn : {u : UnitRecord} → u ≡ unitIn s i → Marked u → isWhole s here ≡ true → marksPass u floor day ≡ true
-          → {k m q h f : ℕ} {z x y : ℤ}
-          → k ≡ u .class → m ≡ bit (unitImplicit u) → z ≡ unitN0 u → x ≡ marginsOf u .«step_down» → y ≡ marginsOf u .«step_up»
-          → h ≡ here + lengthOf u → f ≡ u .number + 1 → q ≡ ofZ w32 (sumZ (pcIn s i) +ℤ u .pc .0)
-          → Going (set class i k) (set taken i m) (set n0 i z) (set down i x) (set up i y) h f q (i + 1)
-      unfolding placeFrom
-      turn {u} v w there passes {h = h} {f = f} ek em ez ex ey eh ef eq =
-          record {
-            begun = g .begun;
-            within = omega arith;
-            place = eh ∙ ap (λ (x : UnitRecord). here + lengthOf x) is-here ∙ ap (unitEnd s) (g .place) ∙ ap (placeFrom s groupLength) (sym (add-one i));
-            left = onward;
-            sold = added-more (g .sold) upto (rw v) (w .pc) eq;
-            classes = fill-more _ _ _ i class _ l (ek ∙ rw v) (g .classes);
-            marks = fill-more _ _ _ i taken _ l (em ∙ rw v) (g .marks);
-            starts = fill-more _ _ _ i n0 _ l (ez ∙ rw v) (g .starts);
-            downs = fill-more _ _ _ i down _ l (ex ∙ rw v) (g .downs);
-            ups = fill-more _ _ _ i up _ l (ey ∙ rw v) (g .ups);
-          }
-        where
-          is-here : u ≡ unitAt s here
-          is-here = v ∙ ap (unitAt s) (sym (g .place))
+      pub not-there : isPlain s here ≡ false → isInterval s here ≡ false → (end : ℕ) → unitsAt s day ≡ is end → ⊥
+      not-there plain interval =
+          let gone : isWhole s here ≡ false = rw (plain, interval) in
+          stopped (λ u e. false≢true (sym gone ∙ unit-lies s here floor day e))
 
-          onward : ((j : ℕ) → j < i + 1 → Amounts s j) → Left (unitsAfter s day) (unitsAt s day) count (i + 1) (h, f)
-          onward all =
-              let a = faults-none _ _ (all i (omega arith)) in
-              let fine : unitFaults (unitAt s here) floor day ≡ Fine =
-              rw (← is-here) (marks-enough u floor day passes (rw v (a .0)) (rw v (a .1 .0)) (rw v (a .1 .1 .0)) (rw v (a .1 .1 .1))) in
-              let next = reading.turn (units-steps s day) count i (g .left (λ j k. all j (omega arith))) l (unit-read s here floor day there fine) in
-              rw (eh ∙ ap (λ (x : UnitRecord). here + lengthOf x) is-here, ef ∙ ap (λ (x : UnitRecord). x .number + 1) is-here) next
+      pub not-marked : {u : UnitRecord} → unitAt s here ≡ u → marksPass u floor day ≡ false → (end : ℕ) → unitsAt s day ≡ is end → ⊥
+      not-marked v fails = stopped (λ u e. false≢true (sym fails ∙ ap (λ (x : UnitRecord). marksPass x floor day) (sym v) ∙ read-marked s here floor day e))
+
+      -- the unit here is taken in
+      module _ {u : UnitRecord} (v : unitAt s here ≡ u) (there : isWhole s here ≡ true) {r : Bool} {class' taken' : List ℕ} {n0' down' up' : List ℤ}
+          (t : TakenIn u floor day i r class taken n0 down up class' taken' n0' down' up') (yes : r ≡ true) where
+        passes : marksPass u floor day ≡ true
+        passes = sym (t .told) ∙ yes
+
+        pub small : Within 1000000 (u .pc .0)
+        small = marked u floor day passes .pc
+
+        here-in : u ≡ unitIn s i
+        here-in = sym v ∙ ap (unitAt s) (g .place)
+
+        pub turn : {h f q : ℕ} → h ≡ unitEnd s here → f ≡ u .number + 1 → q ≡ ofZ w32 (sumZ (pcIn s i) +ℤ u .pc .0) → Going class' taken' n0' down' up' h f q (i + 1)
+        unfolding placeFrom
+        turn {h} {f} {q} eh ef eq =
+            record {
+              begun = g .begun;
+              within = omega arith;
+              place = eh ∙ ap (unitEnd s) (g .place) ∙ ap (placeFrom s groupLength) (sym (add-one i));
+              left = onward;
+              sold = added-more (g .sold) upto (rw here-in) small eq;
+              classes = fill-more _ _ i class l (t .classes yes ∙ rw here-in) (g .classes);
+              marks = fill-more _ _ i taken l (t .marks yes ∙ rw here-in) (g .marks);
+              starts = fill-more _ _ i n0 l (t .starts yes ∙ rw here-in) (g .starts);
+              downs = fill-more _ _ i down l (t .downs yes ∙ rw here-in) (g .downs);
+              ups = fill-more _ _ i up l (t .ups yes ∙ rw here-in) (g .ups);
+            }
+          where
+            onward : ((j : ℕ) → j < i + 1 → Amounts s j) → Left (unitsAfter s day) (unitsAt s day) count (i + 1) (h, f)
+            onward all =
+                let a = faults-none _ _ (all i (omega arith)) in
+                let w = here-in in
+                let fine : unitFaults (unitAt s here) floor day ≡ Fine =
+                rw v (marks-enough u floor day (ap (λ (x : UnitRecord). isUnit (x .kind)) (sym v) ∙ kind-known s here) (ap endsFit (sym v) ∙ ends-fit s here) passes (rw w (a .0)) (rw w (a .1 .0)) (rw w (a .1 .1 .0)) (rw w (a .1 .1 .1))) in
+                let next = reading.turn (units-steps s day) count i (g .left (λ j k. all j (omega arith))) l (unit-read s here floor day there fine) in
+                rw (eh, ef ∙ ap (λ (x : UnitRecord). x .number + 1) (sym v)) next
+
+    -- handed on where units are left, and taken up again
+    pub hand-on : i < count → ReadTo s day class taken n0 down up here floor (toZ w32 p) i
+    hand-on l =
+        record {
+          begun = g .begun;
+          within = l;
+          place = g .place;
+          left = λ all. g .left all .so;
+          sold = added-back (g .sold) upto;
+          small = g .sold .small;
+          room = record { classes = g .classes .long; marks = g .marks .long; starts = g .starts .long; downs = g .downs .long; ups = g .ups .long };
+          classes = g .classes .so;
+          marks = g .marks .so;
+          starts = g .starts .so;
+          downs = g .downs .so;
+          ups = g .ups .so;
+        }
 
     pub end : count ≤ i → Decoded s (toZ w32 p) class taken n0 down up
     end l =
@@ -165,17 +207,33 @@ module _ (s : List ℕ) (day : DayRecord) (class₀ taken₀ : List ℕ) (n0₀ 
         let n : i ≡ count = omega arith in
         record {
           sold = rw (added-back (g .sold) upto, n);
-          classes = fill-all _ _ _ i class h l (g .classes);
-          marks = fill-all _ _ _ i taken h l (g .marks);
-          starts = fill-all _ _ _ i n0 h l (g .starts);
-          downs = fill-all _ _ _ i down h l (g .downs);
-          ups = fill-all _ _ _ i up h l (g .ups);
+          classes = fill-all _ _ i class h l (g .classes);
+          marks = fill-all _ _ i taken h l (g .marks);
+          starts = fill-all _ _ i n0 h l (g .starts);
+          downs = fill-all _ _ i down h l (g .downs);
+          ups = fill-all _ _ i up h l (g .ups);
         }
 
     pub ended : count ≤ i → ((j : ℕ) → j < count → Amounts s j) → unitsAt s day ≡ is here
     ended l all =
         let h = g .within in
         sym (reading.end (units-steps s day) count i (g .left (λ j k. all j (omega arith))) l)
+
+  pub take-up : {class taken : List ℕ} {n0 down up : List ℤ} {here floor i : ℕ} {z : ℤ} → ReadTo s day class taken n0 down up here floor z i
+      → Going class taken n0 down up here floor (ofZ w32 z) i
+  take-up r =
+      record {
+        begun = r .begun;
+        within = omega (arith, r .within);
+        place = r .place;
+        left = λ all. record { within = omega (arith, r .within); so = r .left all };
+        sold = record { total = rw (r .sold); small = r .small };
+        classes = record { long = r .room .classes; so = r .classes };
+        marks = record { long = r .room .marks; so = r .marks };
+        starts = record { long = r .room .starts; so = r .starts };
+        downs = record { long = r .room .downs; so = r .downs };
+        ups = record { long = r .room .ups; so = r .ups };
+      }
 
 -- a reading that was broken off, and one that came to its end
 module _ (s : List ℕ) (day : DayRecord) {r : Reading} {class taken : List ℕ} {n0 down up : List ℤ} where

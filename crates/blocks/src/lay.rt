@@ -15,7 +15,6 @@ use numbers::bytes::u16_at;
 use records::group::GroupRecord;
 use records::group_result::GroupResult;
 use records::unit::UnitRecord;
-use records::unit::unit_end;
 use records::unit_result::UnitResult;
 use writers::lay::lay_head;
 use writers::lay::lay_three;
@@ -49,7 +48,7 @@ fn lay_unit_result(
     lay_u8(room, to + UnitResult::REASON, why[i] as u8);
 }
 
-// The results of the units one after another.
+// The results of the units one after another: of the 03h that come, and then of an 04h, as long as units are left. So each record's length is known, and no place waits for a byte of the record before.
 pub fn lay_unit_results(
     room: &mut [u8],
     s: &[u8],
@@ -66,8 +65,17 @@ pub fn lay_unit_results(
     let mut to = GroupResult::LEN;
     let mut i = 0;
     while i < n0.len() {
+        while i < n0.len() && s[here] == UnitRecord::KIND {
+            lay_unit_result(room, to, s, here, why, n0, n1, n2, n3, i);
+            here += UnitRecord::LEN;
+            to += UnitResult::LEN;
+            i += 1;
+        }
+        if n0.len() <= i {
+            return;
+        }
         lay_unit_result(room, to, s, here, why, n0, n1, n2, n3, i);
-        here = unit_end(s, here);
+        here += UnitRecord::INTERVAL_LEN;
         to += UnitResult::LEN;
         i += 1;
     }

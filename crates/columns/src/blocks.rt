@@ -31,6 +31,9 @@ fn write_columns(
     entries: &[i32],
     e: Ends,
     made: &[u32],
+    kind: &[u8],
+    lower: &[i32],
+    upper: &[i32],
     room: &mut [u8],
 ) -> Answer
     requires { ⌜ 8 ≤ length (now head) ⌝ }
@@ -58,6 +61,9 @@ fn write_columns(
         &entries[step_down..step_up],
         &entries[step_up..],
         made,
+        kind,
+        lower,
+        upper,
         room,
     )
 }
@@ -70,18 +76,26 @@ fn write_body(
     b: Ends,
     e: Ends,
     margins: usize,
+    kinds: usize,
+    lowers: usize,
+    uppers: usize,
     room: &mut [u8],
 ) -> Answer
     requires { ⌜ 8 ≤ length (now head) ⌝ }
     requires { ⌜ Ordered (b .first) (b .second) (b .third) (b .fourth) × Ordered (e .first) (e .second) (e .third) (e .fourth) ⌝ }
     requires { ⌜ (units ≤ 255) × ((b .first ≡ 2 * units) × ((e .first ≤ 255) × (margins ≤ 255))) ⌝ }
-    requires { ⌜ b .fourth + 4 * e .fourth + 4 * margins ≤ length (now columns) ⌝ }
+    requires { ⌜ (kinds ≤ 255) × ((lowers ≤ 255) × (uppers ≤ 255)) ⌝ }
+    requires { ⌜ b .fourth + 4 * e .fourth + 4 * margins + kinds + 4 * (lowers + uppers) ≤ length (now columns) ⌝ }
 {
     let start = b.fourth;
     let end = e.fourth;
     let number = halves_at(columns, 0, units);
     let entries = signed_at(columns, start, end);
     let made = words_at(columns, start + 4 * end, margins);
+    let kind = start + 4 * end + 4 * margins;
+    let lower = kind + kinds;
+    let below = signed_at(columns, lower, lowers);
+    let above = signed_at(columns, lower + 4 * lowers, uppers);
     write_columns(
         head,
         columns,
@@ -90,26 +104,43 @@ fn write_body(
         &entries[..end],
         e,
         &made[..margins],
+        &columns[kind..lower],
+        &below[..lowers],
+        &above[..uppers],
         room,
     )
 }
 
-// The body holds nine columns, and before them the length of the room, which is lent.
+// The body holds twelve columns, and before them the length of the room, which is lent.
 pub fn hand_over(body: &[u8], room: &mut [u8]) -> Written
     ensures { λ r. ⌜ Kept (writes r) (now (room .entry)) (now (room .exit)) ⌝ }
 {
-    if body.len() < 19 {
+    if body.len() < 22 {
         return Written::Unfit;
     }
-    if !permitted(&body[8..17]) {
+    if !permitted(&body[8..20]) {
         return Written::Unfit;
     }
     let units = length_at(body, 8);
     let b = ends_at(body, 8, 2 * units);
     let e = ends_at(body, 12, length_at(body, 12));
     let margins = length_at(body, 16);
-    if body.len() != 19 + b.fourth + 4 * e.fourth + 4 * margins {
+    let kinds = length_at(body, 17);
+    let lowers = length_at(body, 18);
+    let uppers = length_at(body, 19);
+    if body.len() != 22 + b.fourth + 4 * e.fourth + 4 * margins + kinds + 4 * (lowers + uppers) {
         return Written::Unfit;
     }
-    Written::Is(write_body(body, &body[19..], units, b, e, margins, room))
+    Written::Is(write_body(
+        body,
+        &body[22..],
+        units,
+        b,
+        e,
+        margins,
+        kinds,
+        lowers,
+        uppers,
+        room,
+    ))
 }

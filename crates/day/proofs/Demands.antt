@@ -1,19 +1,28 @@
 -- The three demands on an offer, sentence by sentence, from its contract: its reply is an equation, its result the group's definitions, and its group accepted.
 use Prim.Native.Nat.{ℕ, _<_}
 use mathlib.Core.Path.{_≡_, refl, sym, _∙_}
+use mathlib.Core.Bool.{true}
+use mathlib.Core.Logic.{_⊎_, inl, inr}
 use mathlib.Core.List.{List, _++_}
+use lib.IntN.{ℤ, pos}
 use lib.ListN.{length, take, drop}
+use lib.Signed.{leZ}
 use Rattle.numbers.specs.Bytes.{byteAt}
+use Rattle.numbers.specs.Column.{at}
+use Rattle.numbers.proofs.Columns.{column-at}
 use Rattle.terms.specs.Reply.{Reply, is}
 use Rattle.terms.specs.Refusals.{refusal}
 use Rattle.terms.specs.declared.refusal.Refusal.{Refusal}
-use Rattle.group.specs.Group.{Group}
+use Rattle.group.specs.Group.{Group, n3}
 use Rattle.group.specs.Columns.{sumsOf}
 use Rattle.group.specs.Accepted.{Accepted}
 use Rattle.group.specs.Demand3.{Demand3}
 use Rattle.group.proofs.Demand3.{group-demand3}
-use Rattle.records.specs.Layouts.{groupResultAt, unitResultAt}
-use Rattle.records.specs.Reading.{unitPlace}
+use Rattle.records.specs.Layouts.{groupResultAt, unitResultAt, marginsOf}
+use Rattle.records.specs.Reading.{unitPlace, unitIn}
+use Rattle.records.specs.Decoding.{Inside}
+use Rattle.records.proofs.Accepted.{Sound, unit-in}
+use Rattle.records.proofs.Working.{inside}
 use Rattle.writers.specs.Results.{resultLength}
 use Rattle.walk.specs.declared.table.Role.the-variants.{Block}
 use Rattle.walk.specs.Table.{roleOf}
@@ -96,3 +105,23 @@ module _ (day : Day) (s entry : List ℕ) {step : Step} {exit : List ℕ} (o : O
   -- 3. Step 2 of it is fair: each sentence is a field of `Demand3`.
   pub block-fair : Demand3 group
   block-fair = group-demand3 group block-accepted
+
+  -- The margins of the group are the working ones: so a unit ends at zero, or inside both its margins and its interval.
+  pub block-inside : (i : ℕ) → i < blockCount s → (at (n3 group) i ≡ pos 0) ⊎ Inside (unitIn s i) (at (n3 group) i)
+  block-inside i l =
+      let units = read day s (took .long) (took .fields) .units in
+      go (unit-in s (day .«record») (blockCount s) (took .long) units i l) (block-fair .ends-inside i)
+    where
+      down : ℕ → ℤ
+      down j = marginsOf (unitIn s j) .«step_down»
+
+      up : ℕ → ℤ
+      up j = marginsOf (unitIn s j) .«step_up»
+
+      go : Sound (unitIn s i) → (at (n3 group) i ≡ pos 0) ⊎ ((leZ (at (group .stepDown) i) (at (n3 group) i) ≡ true) × (leZ (at (n3 group) i) (at (group .stepUp) i) ≡ true))
+          → (at (n3 group) i ≡ pos 0) ⊎ Inside (unitIn s i) (at (n3 group) i)
+      go sound (inl e) = inl e
+      go sound (inr p) =
+          let low : leZ (down i) (at (n3 group) i) ≡ true = rw (column-at down (blockCount s) i (pos 0) l) at (p .0) in
+          let high : leZ (at (n3 group) i) (up i) ≡ true = rw (column-at up (blockCount s) i (pos 0) l) at (p .1) in
+          inr (inside (unitIn s i) sound (at (n3 group) i) low high)

@@ -18,7 +18,7 @@ use Rattle.day.specs.Offers.{Offers}
 
 -- the refusals that the call gives: those that docs/refusals.txt marks `call`, to which tests/refusals holds this list
 abbrev pub callNumbers : List ℕ
-callNumbers = 1 ∷ 2 ∷ 3 ∷ 4 ∷ 5 ∷ 6 ∷ 7 ∷ 8 ∷ 9 ∷ 10 ∷ 11 ∷ 12 ∷ 17 ∷ 18 ∷ []
+callNumbers = 1 ∷ 2 ∷ 3 ∷ 4 ∷ 5 ∷ 6 ∷ 7 ∷ 8 ∷ 9 ∷ 10 ∷ 11 ∷ 12 ∷ 17 ∷ 18 ∷ 19 ∷ []
 
 -- the length of a result, from that of one unit to the longest, or minus one of these numbers; never 0
 pub data Replied : ℤ → Type 0 where

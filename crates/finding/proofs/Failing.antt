@@ -15,7 +15,6 @@ use Rattle.records.specs.declared.day.DayRecord.{DayRecord}
 use Rattle.records.specs.declared.unit.UnitRecord.{UnitRecord}
 use Rattle.records.specs.Layouts.{unitAt}
 use Rattle.records.specs.Reading.{unitHeadOf, unitEnd, placeFrom, faultPlace, unitFaults, unitFieldsOf, unitOf, unitsOf}
-use Rattle.records.proofs.Turns.{place-inside}
 use Rattle.records.proofs.Places.{place-later}
 use Rattle.records.proofs.Numbers.{headNumbers, by-unit-head}
 
@@ -42,9 +41,9 @@ module _ (n p : ℕ) (other : isOf headNumbers n ≡ true → ⊥) where
     pub fault : Fault
     pub end : ℕ
     pub head : unitHeadOf s at ≡ is end
+    pub faulty : unitFaults (unitAt s at) floor d ≡ Faulty fault
     pub number : n ≡ numberOf (whyOf fault)
     pub place : p ≡ at + faultPlace fault
-    pub within : p < unitEnd s at
 
   checks-no : (s : List ℕ) (at floor : ℕ) (d : DayRecord) (end : ℕ) → unitHeadOf s at ≡ is end → (checks : Checked) → unitFaults (unitAt s at) floor d ≡ checks
       → _≡_ {A = Reply UnitRecord} (passed (λ fault. at + faultPlace fault) checks (is (unitAt s at))) (refused n p) → Faulted s at floor d
@@ -53,7 +52,7 @@ module _ (n p : ℕ) (other : isOf headNumbers n ≡ true → ⊥) where
   checks-no s at floor d end h (Faulty fault) c e =
       let a : numberOf (whyOf fault) ≡ n = cc in
       let b : at + faultPlace fault ≡ p = cc in
-      record { fault = fault; end = end; head = h; number = sym a; place = sym b; within = omega (arith, place-inside (unitAt s at) floor d fault c) }
+      record { fault = fault; end = end; head = h; faulty = c; number = sym a; place = sym b }
 
   unit-no : (s : List ℕ) (at floor : ℕ) (d : DayRecord) → unitOf s at floor d ≡ refused n p → Faulted s at floor d
   unfolding unitOf unitFieldsOf
@@ -72,9 +71,10 @@ module _ (n p : ℕ) (other : isOf headNumbers n ≡ true → ⊥) where
     pub pass : unitsOf s at floor d index ≡ is (placeFrom s at index)
     pub fails : unitsOf s at floor d (suc index) ≡ refused n p
     pub head : unitHeadOf s (placeFrom s at index) ≡ is end
+    pub least : ℕ
+    pub faulty : unitFaults (unitAt s (placeFrom s at index)) least d ≡ Faulty fault
     pub number : n ≡ numberOf (whyOf fault)
     pub place : p ≡ placeFrom s at index + faultPlace fault
-    pub within : p < unitEnd s (placeFrom s at index)
 
   pub first : (s : List ℕ) (at floor : ℕ) (d : DayRecord) (left : ℕ) → unitsOf s at floor d left ≡ refused n p → First s at floor d left
   unfolding unitsOf placeFrom next
@@ -95,9 +95,10 @@ module _ (n p : ℕ) (other : isOf headNumbers n ≡ true → ⊥) where
             pass = refl;
             fails = rw h;
             head = f .head;
+            least = floor;
+            faulty = f .faulty;
             number = f .number;
             place = f .place;
-            within = f .within;
           }
       go (after u h f) rest =
           let r = rest u f in
@@ -110,7 +111,8 @@ module _ (n p : ℕ) (other : isOf headNumbers n ≡ true → ⊥) where
             pass = rw h (r .pass ∙ ap is later);
             fails = rw h (r .fails);
             head = rw later at (r .head);
+            least = r .least;
+            faulty = rw later at (r .faulty);
             number = r .number;
             place = rw later at (r .place);
-            within = rw later at (r .within);
           }

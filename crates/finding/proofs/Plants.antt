@@ -1,15 +1,17 @@
 -- A refusal of a unit's field names the first unit that does not pass: the offer's checks lead to its units, and the walk over them to its record.
 use Prim.Native.Nat.{ℕ, zero, suc, _+_, _-_, _≤_, _<_}
 use mathlib.Core.Path.{_≡_, refl, sym, ap, _∙_}
-use mathlib.Core.Bool.{true, not, false≢true}
+use mathlib.Core.Bool.{Bool, true, false, not, false≢true}
 use mathlib.Core.List.{List, [], _∷_}
 use native.Mathlib.Omega.{arith}
 use borrow.Author.Tests.{lt-ltb, le-ltb, le-leb}
 use lib.ListN.{length}
+use Rattle.numbers.specs.Choice.{pick}
 use Rattle.terms.specs.Reply.{Reply, is, refused}
 use Rattle.terms.specs.Refusals.{numberOf, whyOf, refusal}
 use Rattle.terms.specs.declared.refusal.Fault.{Fault}
 use Rattle.terms.specs.declared.refusal.Fault.the-variants as A
+use Rattle.terms.specs.declared.refusal.Checked.the-variants.{Faulty}
 use Rattle.terms.specs.declared.refusal.Refusal.{Refusal}
 use Rattle.terms.proofs.Same.{whyBy, why-back, why-same}
 use Rattle.terms.proofs.Numbers.{isOf, allOf, By, value, number, by-each, by-need}
@@ -19,6 +21,7 @@ use Rattle.records.proofs.UnitHeads.{length-least, read-kind, read-long}
 use Rattle.records.proofs.Numbers.{headNumbers, dayNumbers, groupNumbers, endNumbers, by-group}
 use Rattle.records.proofs.Read.{group-passed}
 use Rattle.records.proofs.Places.{place-later, place-from}
+use Rattle.records.proofs.Turns.{place-inside}
 use Rattle.walk.specs.declared.table.Role.{Role}
 use Rattle.walk.specs.declared.table.Role.the-variants.{Opens, Block, Closes}
 use Rattle.walk.specs.declared.table.Head.{Head}
@@ -30,12 +33,15 @@ use Rattle.day.specs.Offers.{headFor, blockTaken, taken, offerOf}
 use Rattle.day.proofs.ByKind.{head-came, group-long}
 use Rattle.day.proofs.Numbers.{by-head-for, by-opens, by-closes}
 use Rattle.finding.specs.declared.spot.Spot.the-variants.{Unit}
+use Rattle.finding.specs.declared.named.UnitField.the-variants as U
 use Rattle.finding.specs.declared.named.Field.the-variants as F
+use Rattle.finding.specs.declared.named.Held.the-variants as H
 use Rattle.finding.specs.declared.named.Subject.the-variants as S
 use Rattle.finding.specs.Spots.{groupWhole, spotFrom, spotOf}
-use Rattle.finding.specs.Naming.{keyIn, numberAtHand, unitLayout, unitFieldAt, toldOf, findingOf, namedOf}
+use Rattle.finding.specs.Naming.{keyIn, numberAtHand, layout, unitValueAt, unitFieldAt, toldOf, leastFinding, mostFinding, lowerMeets, findingOf, namedOf}
 use Rattle.finding.specs.Plants.{ofUnit, faultField, faultHeld, Plant}
 use Rattle.finding.proofs.Failing.{next-from, either, First, first}
+use Rattle.finding.proofs.Apart.{ends-apart}
 
 -- ---- the walk finds the record of the unit of an index
 abbrev beforeFrom : List ℕ → ℕ → ℕ → ℕ → ℕ
@@ -65,8 +71,9 @@ spot-at s place index at before (suc k) (suc left) l low high =
 
 -- ---- the rows of a unit's faults
 row : (day : Day) (s : List ℕ) (at before : ℕ) (fault : Fault) (p : ℕ) → p - at ≡ faultPlace fault
-    → findingOf day s (whyOf fault) p at before ≡ toldOf s at (F.Unit (faultField fault)) (faultHeld (day .«record») s at before fault)
+    → findingOf day s (whyOf fault) p at before ≡ toldOf s at (faultField s at fault) (faultHeld (day .«record») s at before fault)
 unfolding findingOf unitFieldAt
+row day s at before A.Kind p e = refl
 row day s at before A.Number p e = refl
 row day s at before A.Class p e = rw e
 row day s at before A.Coincide p e = rw e
@@ -76,23 +83,39 @@ row day s at before A.N p e = rw e
 row day s at before A.Pc p e = rw e
 row day s at before A.StepDown p e = rw e
 row day s at before A.StepUp p e = rw e
-row day s at before A.Crossed p e = refl
+row day s at before A.Lower p e = rw e
+row day s at before A.Upper p e = rw e
+row day s at before A.Crossed p e = rw e
+row day s at before A.EndsCrossed p e = rw e
+row day s at before A.NotFull p e = rw e
+row day s at before A.WorkingCrossed p e = told (lowerMeets s at)
+  where
+    told : (t : Bool) → pick t (leastFinding s at U.Upper U.StepDown) (mostFinding s at U.Lower U.StepUp)
+        ≡ toldOf s at (F.Unit (pick t U.Upper U.Lower)) (pick t (H.AtLeast U.StepDown (unitValueAt s at U.StepDown)) (H.AtMost U.StepUp (unitValueAt s at U.StepUp)))
+    told true = refl
+    told false = refl
 row day s at before A.Ahead p e = refl
 row day s at before A.Age p e = refl
 
-field-at : (fault : Fault) → unitLayout (faultField fault) .place ≡ faultPlace fault
-field-at A.Number = refl
-field-at A.Class = refl
-field-at A.Coincide = refl
-field-at A.Nominated = refl
-field-at A.NotNominated = refl
-field-at A.N = refl
-field-at A.Pc = refl
-field-at A.StepDown = refl
-field-at A.StepUp = refl
-field-at A.Crossed = refl
-field-at A.Ahead = refl
-field-at A.Age = refl
+field-at : (s : List ℕ) (at : ℕ) (fault : Fault) → (fault ≡ A.WorkingCrossed → ⊥) → layout (faultField s at fault) .place ≡ faultPlace fault
+field-at s at A.Kind other = refl
+field-at s at A.Number other = refl
+field-at s at A.Class other = refl
+field-at s at A.Coincide other = refl
+field-at s at A.Nominated other = refl
+field-at s at A.NotNominated other = refl
+field-at s at A.N other = refl
+field-at s at A.Pc other = refl
+field-at s at A.StepDown other = refl
+field-at s at A.StepUp other = refl
+field-at s at A.Lower other = refl
+field-at s at A.Upper other = refl
+field-at s at A.Crossed other = refl
+field-at s at A.EndsCrossed other = refl
+field-at s at A.NotFull other = refl
+field-at s at A.WorkingCrossed other = absurd (other refl)
+field-at s at A.Ahead other = refl
+field-at s at A.Age other = refl
 
 -- the number is at hand in a unit record that lies there whole
 number-at-hand : (s : List ℕ) (at : ℕ) {end : ℕ} → unitHeadOf s at ≡ is end → numberAtHand s at ≡ true
@@ -158,7 +181,7 @@ module _ (day : Day) (s : List ℕ) (r : Refusal) where
       → namedOf day s r
       ≡ record {
         subject = S.Unit (keyIn s) (unitIn s i .number);
-        finding = toldOf s (unitPlace s i) (F.Unit (faultField fault)) (faultHeld (day .«record») s (unitPlace s i) (unitPlace s (i - 1)) fault);
+        finding = toldOf s (unitPlace s i) (faultField s (unitPlace s i) fault) (faultHeld (day .«record») s (unitPlace s i) (unitPlace s (i - 1)) fault);
       }
   unfolding namedOf L.unitAt
   named-at i fault why spot place hand =
@@ -172,9 +195,10 @@ module _ (day : Day) (s : List ℕ) (r : Refusal) where
       let fault = f .fault in
       let why : r .why ≡ whyOf fault = why-same (r .why) (whyOf fault) (f .number) in
       let low : at ≤ r .place = omega (arith, f .place) in
+      let within : r .place < unitEnd s at = omega (arith, f .place, place-inside s at (f .least) (day .«record») fault (f .faulty)) in
       let behind : L.groupLength ≤ r .place = omega (arith, place-from s L.groupLength i) in
       let spot : spotOf s (r .place) ≡ Unit (record { index = 0 + i; at = at; before = unitPlace s (i - 1) }) =
-      spot-found whole behind ∙ spot-at s (r .place) 0 L.groupLength L.groupLength i (L.groupAt s 0 .count) (f .counted) low (f .within) ∙ rw (before-one i) in
+      spot-found whole behind ∙ spot-at s (r .place) 0 L.groupLength L.groupLength i (L.groupAt s 0 .count) (f .counted) low within ∙ rw (before-one i) in
       record {
         index = i;
         fault = fault;
@@ -183,7 +207,8 @@ module _ (day : Day) (s : List ℕ) (r : Refusal) where
         fails = f .fails;
         why = why;
         place = f .place;
-        field = field-at fault;
+        field = field-at s at fault;
+        apart = λ w. ends-apart s at (f .least) (day .«record») (f .faulty ∙ ap Faulty w);
         named = named-at i fault why spot (f .place) (number-at-hand s at (f .head));
       }
 

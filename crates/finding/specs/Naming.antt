@@ -4,6 +4,7 @@ use mathlib.Core.Bool.{Bool, _&&_, _||_}
 use mathlib.Core.List.{List}
 use lib.Dec.{leb, ltb}
 use lib.ListN.{length}
+use lib.Signed.{leZ}
 use Rattle.numbers.specs.Bytes.{byteAt}
 use Rattle.numbers.specs.Choice.{pick}
 use Rattle.terms.specs.declared.refusal.Why.{Why}
@@ -82,6 +83,8 @@ unitLayout U.Pc = L.unitPc
 unitLayout U.StepDown = L.unitStepDown
 unitLayout U.StepUp = L.unitStepUp
 unitLayout U.Made = L.unitMade
+unitLayout U.Lower = L.unitLower
+unitLayout U.Upper = L.unitUpper
 
 abbrev pub layout : Field → L.Field
 layout F.Kind = L.field 0 L.u8
@@ -123,7 +126,9 @@ unitFieldAt offset =
     (pick (upTo U.Pc offset) U.Pc
     (pick (upTo U.StepDown offset) U.StepDown
     (pick (upTo U.StepUp offset) U.StepUp
-    U.Made)))))))
+    (pick (upTo U.Made offset) U.Made
+    (pick (upTo U.Lower offset) U.Lower
+    U.Upper)))))))))
 
 -- ---- what it was held against
 -- a flag is 0 or 1, and N is 0 where it is not nominated
@@ -147,8 +152,24 @@ flagFinding s at offset = toldOf s at (F.Unit (unitFieldAt offset)) (flagHeld of
 abbrev pub rangeFinding : List ℕ → ℕ → ℕ → Finding
 rangeFinding s at offset = toldOf s at (F.Unit (unitFieldAt offset)) H.Range
 
-abbrev pub crossedFinding : List ℕ → ℕ → Finding
-crossedFinding s at = toldOf s at (F.Unit U.StepUp) (H.AtLeast (L.valueAt s at L.unitStepDown))
+-- a field that lies below another, or above it
+abbrev pub leastFinding : List ℕ → ℕ → UnitField → UnitField → Finding
+leastFinding s at field other = toldOf s at (F.Unit field) (H.AtLeast other (unitValueAt s at other))
+
+abbrev pub mostFinding : List ℕ → ℕ → UnitField → UnitField → Finding
+mostFinding s at field other = toldOf s at (F.Unit field) (H.AtMost other (unitValueAt s at other))
+
+-- the pair of margins, or of ends, by the place
+abbrev pub crossedFinding : List ℕ → ℕ → ℕ → Finding
+crossedFinding s at offset = pick (upTo U.StepUp offset) (leastFinding s at U.StepUp U.StepDown) (leastFinding s at U.Upper U.Lower)
+
+-- the lower end does not lie above M+
+abbrev pub lowerMeets : List ℕ → ℕ → Bool
+lowerMeets s at = leZ (L.valueAt s at L.unitLower) (L.valueAt s at L.unitStepUp)
+
+-- an interval that leaves no room lies above the margins or below them: its lower end is above M+, or its upper end below M-
+abbrev pub workingFinding : List ℕ → ℕ → Finding
+workingFinding s at = pick (lowerMeets s at) (leastFinding s at U.Upper U.StepDown) (mostFinding s at U.Lower U.StepUp)
 
 abbrev pub positionsFinding : List ℕ → ℕ → DayRecord → Finding
 positionsFinding s at d = toldOf s at F.PositionsMade (ageHeld (d .run) (L.valueAt s at L.groupMade) (d .«position_limit»))
@@ -165,7 +186,7 @@ findingOf day s W.UnitCount place at before = toldOf s at F.UnitCount H.UnitCoun
 findingOf day s W.UnitNumber place at before = numberFinding s at before
 findingOf day s W.Flag place at before = flagFinding s at (place - at)
 findingOf day s W.Range place at before = rangeFinding s at (place - at)
-findingOf day s W.Crossed place at before = crossedFinding s at
+findingOf day s W.Crossed place at before = crossedFinding s at (place - at)
 findingOf day s W.PositionAge place at before = positionsFinding s at (day .«record»)
 findingOf day s W.MarginAge place at before = marginsFinding s at (day .«record»)
 findingOf day s W.Room place at before = N.Room
@@ -174,6 +195,7 @@ findingOf day s W.EndCount place at before = toldOf s at F.Groups (H.Accepted (d
 findingOf day s W.Columns place at before = N.Columns
 findingOf day s W.PositionAhead place at before = positionsFinding s at (day .«record»)
 findingOf day s W.MarginAhead place at before = marginsFinding s at (day .«record»)
+findingOf day s W.WorkingCrossed place at before = workingFinding s at
 
 -- the refusal of bytes that were offered to a day
 unfoldable pub namedOf : Day → List ℕ → Refusal → Named

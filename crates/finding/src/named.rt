@@ -6,7 +6,7 @@ ghost use Rattle.records.specs.Reading.{keyOf};
 ghost use Rattle.finding.specs.Inner.{Near};
 ghost use Rattle.finding.specs.Spots.{recordAt};
 ghost use Rattle.finding.specs.Naming.{unitFieldAt, unitValueAt, valueIn, roleSubject, isTaken, kindSubject, frontSubject, unitSubject, subjectOf, flagHeld, ageHeld, toldOf};
-ghost use Rattle.finding.specs.Naming.{numberFinding, flagFinding, rangeFinding, crossedFinding, positionsFinding, marginsFinding, findingOf, namedOf};
+ghost use Rattle.finding.specs.Naming.{numberFinding, flagFinding, rangeFinding, leastFinding, mostFinding, crossedFinding, workingFinding, positionsFinding, marginsFinding, findingOf, namedOf};
 use crate::reading::byte;
 use crate::reading::half;
 use crate::reading::signed;
@@ -55,6 +55,8 @@ pub enum UnitField {
     StepDown,
     StepUp,
     Made,
+    Lower,
+    Upper,
 }
 
 pub enum Field {
@@ -82,7 +84,9 @@ pub enum Held {
     Flag,
     NotNominated,
     Range,
-    AtLeast(i32),
+    // Another field of the unit, and its value.
+    AtLeast(UnitField, Value),
+    AtMost(UnitField, Value),
     // Run minute, limit and age.
     Old(u32, u16, u32),
     // Run minute and limit: it was made after the run.
@@ -211,7 +215,13 @@ fn unit_field_at(offset: usize) -> UnitField
     if offset < UnitRecord::MADE {
         return UnitField::StepUp;
     }
-    UnitField::Made
+    if offset < UnitRecord::LOWER {
+        return UnitField::Made;
+    }
+    if offset < UnitRecord::UPPER {
+        return UnitField::Lower;
+    }
+    UnitField::Upper
 }
 
 fn unit_value(s: &[u8], at: usize, field: UnitField) -> Value
@@ -228,6 +238,8 @@ fn unit_value(s: &[u8], at: usize, field: UnitField) -> Value
         UnitField::StepDown => Value::Signed(signed(s, at + UnitRecord::STEP_DOWN)),
         UnitField::StepUp => Value::Signed(signed(s, at + UnitRecord::STEP_UP)),
         UnitField::Made => Value::Plain(word(s, at + UnitRecord::MADE)),
+        UnitField::Lower => Value::Signed(signed(s, at + UnitRecord::LOWER)),
+        UnitField::Upper => Value::Signed(signed(s, at + UnitRecord::UPPER)),
     }
 }
 
@@ -302,13 +314,46 @@ fn range_finding(s: &[u8], at: usize, offset: usize) -> Finding
     tell(s, at, Field::Unit(field), Held::Range)
 }
 
-// 9: the pair of margins.
-fn crossed_finding(s: &[u8], at: usize) -> Finding
+// A field that lies below another.
+fn least_finding(s: &[u8], at: usize, field: UnitField, other: UnitField) -> Finding
     requires { ⌜ Near at ⌝ }
-    ensures { λ r. ⌜ r ≡ crossedFinding (now (s .entry)) at ⌝ }
+    ensures { λ r. ⌜ r ≡ leastFinding (now (s .entry)) at field other ⌝ }
 {
-    let down = signed(s, at + UnitRecord::STEP_DOWN);
-    tell(s, at, Field::Unit(UnitField::StepUp), Held::AtLeast(down))
+    let value = unit_value(s, at, other);
+    tell(s, at, Field::Unit(field), Held::AtLeast(other, value))
+}
+
+// A field that lies above another.
+fn most_finding(s: &[u8], at: usize, field: UnitField, other: UnitField) -> Finding
+    requires { ⌜ Near at ⌝ }
+    ensures { λ r. ⌜ r ≡ mostFinding (now (s .entry)) at field other ⌝ }
+{
+    let value = unit_value(s, at, other);
+    tell(s, at, Field::Unit(field), Held::AtMost(other, value))
+}
+
+// 9: the pair of margins or that of ends, by the place in the record.
+fn crossed_finding(s: &[u8], at: usize, offset: usize) -> Finding
+    requires { ⌜ Near at ⌝ }
+    ensures { λ r. ⌜ r ≡ crossedFinding (now (s .entry)) at offset ⌝ }
+{
+    if offset < UnitRecord::MADE {
+        return least_finding(s, at, UnitField::StepUp, UnitField::StepDown);
+    }
+    least_finding(s, at, UnitField::Upper, UnitField::Lower)
+}
+
+// 19: the interval lies above the margins, or below them.
+fn working_finding(s: &[u8], at: usize) -> Finding
+    requires { ⌜ Near at ⌝ }
+    ensures { λ r. ⌜ r ≡ workingFinding (now (s .entry)) at ⌝ }
+{
+    let up = signed(s, at + UnitRecord::STEP_UP);
+    let lower = signed(s, at + UnitRecord::LOWER);
+    if lower <= up {
+        return least_finding(s, at, UnitField::Upper, UnitField::StepDown);
+    }
+    most_finding(s, at, UnitField::Lower, UnitField::StepUp)
 }
 
 // 10: against the limit of positions.
@@ -347,7 +392,7 @@ fn finding_of(day: Day, s: &[u8], why: Why, place: usize, at: usize, before: usi
         Why::UnitNumber => number_finding(s, at, before),
         Why::Flag => flag_finding(s, at, place - at),
         Why::Range => range_finding(s, at, place - at),
-        Why::Crossed => crossed_finding(s, at),
+        Why::Crossed => crossed_finding(s, at, place - at),
         Why::PositionAge => positions_finding(s, at, d),
         Why::MarginAge => margins_finding(s, at, d),
         Why::Room => Finding::Room,
@@ -356,6 +401,7 @@ fn finding_of(day: Day, s: &[u8], why: Why, place: usize, at: usize, before: usi
         Why::Columns => Finding::Columns,
         Why::PositionAhead => positions_finding(s, at, d),
         Why::MarginAhead => margins_finding(s, at, d),
+        Why::WorkingCrossed => working_finding(s, at),
     }
 }
 

@@ -7,7 +7,7 @@ use crate::writes;
 use numbers::bytes::u16_at;
 
 // No room is longer.
-const MOST: usize = 2048;
+const MOST: usize = 2304;
 
 // What stands in all of the room before the call, A5h.
 const FILLER: u8 = 165;
@@ -19,7 +19,7 @@ fn length_place(call: u8) -> usize
     match call {
         2 => 21,
         4 => 11,
-        5 => 17,
+        5 => 20,
         6 => 4,
         _ => 3,
     }

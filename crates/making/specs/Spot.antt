@@ -29,8 +29,9 @@ quarterSpot g = Value groupKind 3 (pos (g .quarter))
 abbrev pub countSpot : GroupRecord → Spot
 countSpot g = Value groupKind 4 (pos (g .count))
 
--- 6 to 9 of the field of a UNIT's fault: N where it is not 0 though not nominated, M- of crossed margins; no unit of a text has a fault of age
+-- 6 to 9 and 19 of the field of a UNIT's fault: N where it is not 0 though not nominated, M- of crossed margins, the lower end of crossed ends and of an interval that leaves no room; no unit of a text has the faults of kind, of a 03h's ends and of age
 abbrev pub faultSpot : UnitRecord → Fault → Spot
+faultSpot u F.Kind = Value unitKind 0 (pos 0)
 faultSpot u F.Number = Value unitKind 1 (pos (u .number))
 faultSpot u F.Class = Value unitKind 2 (pos (u .class))
 faultSpot u F.Coincide = Value unitKind 3 (pos (u .coincide))
@@ -40,7 +41,12 @@ faultSpot u F.N = Value unitKind 5 (u .n .0)
 faultSpot u F.Pc = Value unitKind 6 (u .pc .0)
 faultSpot u F.StepDown = Value unitKind 7 (u .«step_down»)
 faultSpot u F.StepUp = Value unitKind 8 (u .«step_up»)
+faultSpot u F.Lower = Value unitKind 10 (u .lower)
+faultSpot u F.Upper = Value unitKind 11 (u .upper)
 faultSpot u F.Crossed = Value unitKind 7 (u .«step_down»)
+faultSpot u F.EndsCrossed = Value unitKind 10 (u .lower)
+faultSpot u F.NotFull = Value unitKind 10 (pos 0)
+faultSpot u F.WorkingCrossed = Value unitKind 10 (u .lower)
 faultSpot u F.Ahead = Value unitKind 9 (pos 0)
 faultSpot u F.Age = Value unitKind 9 (pos 0)
 

@@ -57,6 +57,7 @@ fn fault_spot(u: UnitRecord, fault: Fault) -> Spot
     ensures { λ r. ⌜ r ≡ faultSpot u fault ⌝ }
 {
     match fault {
+        Fault::Kind => Spot::Value(UnitRecord::KIND, 0, 0),
         Fault::Number => Spot::Value(UnitRecord::KIND, 1, u.number as i32),
         Fault::Class => Spot::Value(UnitRecord::KIND, 2, u.class as i32),
         Fault::Coincide => Spot::Value(UnitRecord::KIND, 3, u.coincide as i32),
@@ -66,7 +67,12 @@ fn fault_spot(u: UnitRecord, fault: Fault) -> Spot
         Fault::Pc => Spot::Value(UnitRecord::KIND, 6, u.pc.0),
         Fault::StepDown => Spot::Value(UnitRecord::KIND, 7, u.step_down),
         Fault::StepUp => Spot::Value(UnitRecord::KIND, 8, u.step_up),
+        Fault::Lower => Spot::Value(UnitRecord::KIND, 10, u.lower),
+        Fault::Upper => Spot::Value(UnitRecord::KIND, 11, u.upper),
         Fault::Crossed => Spot::Value(UnitRecord::KIND, 7, u.step_down),
+        Fault::EndsCrossed => Spot::Value(UnitRecord::KIND, 10, u.lower),
+        Fault::NotFull => Spot::Value(UnitRecord::KIND, 10, 0),
+        Fault::WorkingCrossed => Spot::Value(UnitRecord::KIND, 10, u.lower),
         Fault::Ahead => Spot::Value(UnitRecord::KIND, 9, 0),
         Fault::Age => Spot::Value(UnitRecord::KIND, 9, 0),
     }

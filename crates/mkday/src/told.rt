@@ -66,6 +66,8 @@ fn say_of_record(kind: u8, bars: usize) {
               |M-|a whole number from -2147483648 to 2147483647\
               |M+|a whole number from -2147483648 to 2147483647\
               |margins made|a whole number from 0 to 4294967295 or a moment such as 2026-01-14T13:20Z\
+              |lower end|a whole number from -2147483648 to 2147483647\
+              |upper end|a whole number from -2147483648 to 2147483647\
               |after the last field|a field of the line",
             bars,
         ),
@@ -118,18 +120,31 @@ fn say_why(number: u8) {
     );
 }
 
-// A value that the writers refuse. N, the fifth field of a unit, is told by 7 though it is no flag.
+// What is wrong with a value. N, the fifth field of a unit, is told by 7 though it is no flag, and the lower end, the tenth, by 9 of the ends.
+fn say_wrong(index: u8, number: u8) {
+    if number == 7 && index == 5 {
+        say(b"not 0 though not nominated");
+        return;
+    }
+    if number == 9 && index == 10 {
+        say(b"above the upper end");
+        return;
+    }
+    if number == 19 {
+        say(b"of an interval that leaves no room between the margins");
+        return;
+    }
+    say_why(number);
+}
+
+// A value that the writers refuse.
 fn say_value(kind: u8, index: u8, value: i32, number: u8) {
     say(b", ");
     say_of_record(kind, (index as usize) * 2);
     say(b": ");
     say_number(value);
     say(b" is ");
-    if number == 7 && index == 5 {
-        say(b"not 0 though not nominated");
-    } else {
-        say_why(number);
-    }
+    say_wrong(index, number);
 }
 
 // A field that is not in the form.

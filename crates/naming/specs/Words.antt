@@ -129,6 +129,14 @@ upName = 77 ∷ 43 ∷ []
 abbrev pub marginsName : List ℕ
 marginsName = 109 ∷ 97 ∷ 114 ∷ 103 ∷ 105 ∷ 110 ∷ 115 ∷ 32 ∷ 109 ∷ 97 ∷ 100 ∷ 101 ∷ []
 
+-- `lower end`
+abbrev pub lowerName : List ℕ
+lowerName = 108 ∷ 111 ∷ 119 ∷ 101 ∷ 114 ∷ 32 ∷ 101 ∷ 110 ∷ 100 ∷ []
+
+-- `upper end`
+abbrev pub upperName : List ℕ
+upperName = 117 ∷ 112 ∷ 112 ∷ 101 ∷ 114 ∷ 32 ∷ 101 ∷ 110 ∷ 100 ∷ []
+
 -- `, not permitted`
 abbrev pub permittedPhrase : List ℕ
 permittedPhrase = 44 ∷ 32 ∷ 110 ∷ 111 ∷ 116 ∷ 32 ∷ 112 ∷ 101 ∷ 114 ∷ 109 ∷ 105 ∷ 116 ∷ 116 ∷ 101 ∷ 100 ∷ []
@@ -161,9 +169,13 @@ nominatedPhrase = 44 ∷ 32 ∷ 48 ∷ 32 ∷ 119 ∷ 104 ∷ 101 ∷ 114 ∷ 10
 abbrev pub rangePhrase : List ℕ
 rangePhrase = 44 ∷ 32 ∷ 102 ∷ 114 ∷ 111 ∷ 109 ∷ 32 ∷ 45 ∷ 49 ∷ 48 ∷ 48 ∷ 48 ∷ 48 ∷ 48 ∷ 48 ∷ 32 ∷ 116 ∷ 111 ∷ 32 ∷ 49 ∷ 48 ∷ 48 ∷ 48 ∷ 48 ∷ 48 ∷ 48 ∷ []
 
--- `, at least M-`
+-- `, at least `
 abbrev pub leastWord : List ℕ
-leastWord = 44 ∷ 32 ∷ 97 ∷ 116 ∷ 32 ∷ 108 ∷ 101 ∷ 97 ∷ 115 ∷ 116 ∷ 32 ∷ 77 ∷ 45 ∷ []
+leastWord = 44 ∷ 32 ∷ 97 ∷ 116 ∷ 32 ∷ 108 ∷ 101 ∷ 97 ∷ 115 ∷ 116 ∷ 32 ∷ []
+
+-- `, at most `
+abbrev pub mostWord : List ℕ
+mostWord = 44 ∷ 32 ∷ 97 ∷ 116 ∷ 32 ∷ 109 ∷ 111 ∷ 115 ∷ 116 ∷ 32 ∷ []
 
 -- `, run`
 abbrev pub runWord : List ℕ
@@ -236,6 +248,8 @@ unitFieldName U.Pc = pcName
 unitFieldName U.StepDown = downName
 unitFieldName U.StepUp = upName
 unitFieldName U.Made = marginsName
+unitFieldName U.Lower = lowerName
+unitFieldName U.Upper = upperName
 
 unfoldable pub fieldName : Field → List ℕ
 fieldName F.Kind = kindName
@@ -250,6 +264,10 @@ unfoldable pub valueWords : Value → List ℕ
 valueWords (Plain n) = 32 ∷ decimal n
 valueWords (Signed z) = 32 ∷ signedDecimal z
 
+-- a word, the field that it was held against, and its value
+unfoldable pub againstWords : List ℕ → UnitField → Value → List ℕ
+againstWords word f v = (word ++ unitFieldName f) ++ valueWords v
+
 unfoldable pub ageWords : ℕ → ℕ → List ℕ
 ageWords run limit = numbered runWord run ++ numbered limitWord limit
 
@@ -262,7 +280,8 @@ heldWords (H.Above n) = numbered aboveWord n
 heldWords H.Flag = flagPhrase
 heldWords H.NotNominated = nominatedPhrase
 heldWords H.Range = rangePhrase
-heldWords (H.AtLeast z) = leastWord ++ (32 ∷ signedDecimal z)
+heldWords (H.AtLeast f v) = againstWords leastWord f v
+heldWords (H.AtMost f v) = againstWords mostWord f v
 heldWords (H.Old run limit age) = ageWords run limit ++ numbered ageWord age
 heldWords (H.Ahead run limit) = ageWords run limit ++ aheadPhrase
 heldWords (H.Accepted n) = numbered acceptedWord n

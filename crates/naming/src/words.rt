@@ -4,7 +4,7 @@ ghost use Prim.Native.Nat.{_+_, _≤_};
 ghost use lib.ListN.{length};
 ghost use Rattle.lines.specs.Lines.{decimal, signedDecimal, i32Field, u32Field, u64Field};
 ghost use Rattle.lines.specs.Inner.{Lays};
-ghost use Rattle.naming.specs.Words.{numbered, keyWords, subjectWords, unitFieldName, fieldName, valueWords, ageWords, heldWords, toldWords, lastWords, findingWords, nameLine};
+ghost use Rattle.naming.specs.Words.{numbered, keyWords, subjectWords, unitFieldName, fieldName, valueWords, againstWords, ageWords, heldWords, toldWords, lastWords, findingWords, nameLine};
 ghost use Rattle.naming.specs.Words.{longestKey, longestSubject, longestName, longestValue, longestAge, longestHeld, longestFinding, longestLine};
 use finding::named::Field;
 use finding::named::Finding;
@@ -100,6 +100,8 @@ fn lay_unit_field(out: &mut [u8], at: usize, field: UnitField) -> usize
         UnitField::StepDown => lay_word(out, at, b"M-"),
         UnitField::StepUp => lay_word(out, at, b"M+"),
         UnitField::Made => lay_word(out, at, b"margins made"),
+        UnitField::Lower => lay_word(out, at, b"lower end"),
+        UnitField::Upper => lay_word(out, at, b"upper end"),
     }
 }
 
@@ -128,6 +130,16 @@ fn lay_value(out: &mut [u8], at: usize, value: Value) -> usize
     }
 }
 
+// A word, the field that it was held against, and its value.
+fn lay_against(out: &mut [u8], at: usize, word: &[u8], f: UnitField, v: Value) -> usize
+    requires { ⌜ at + length (now word) + longestName + longestValue ≤ length (now out) ⌝ }
+    ensures { λ r. ⌜ Lays (now (out .entry)) at (againstWords (now (word .entry)) f v) (length (now (word .entry)) + longestName + longestValue) r (now (out .exit)) ⌝ }
+{
+    let behind = lay_word(out, at, word);
+    let field = lay_unit_field(out, behind, f);
+    lay_value(out, field, v)
+}
+
 fn lay_age(out: &mut [u8], at: usize, run: u32, limit: u16) -> usize
     requires { ⌜ at + longestAge ≤ length (now out) ⌝ }
     ensures { λ r. ⌜ Lays (now (out .entry)) at (ageWords run limit) longestAge r (now (out .exit)) ⌝ }
@@ -149,10 +161,8 @@ fn lay_held(out: &mut [u8], at: usize, held: Held) -> usize
         Held::Flag => lay_word(out, at, b", one of 0, 1"),
         Held::NotNominated => lay_word(out, at, b", 0 where not nominated"),
         Held::Range => lay_word(out, at, b", from -1000000 to 1000000"),
-        Held::AtLeast(z) => {
-            let least = lay_word(out, at, b", at least M-");
-            lay_signed(out, least, z)
-        }
+        Held::AtLeast(f, v) => lay_against(out, at, b", at least ", f, v),
+        Held::AtMost(f, v) => lay_against(out, at, b", at most ", f, v),
         Held::Old(run, limit, age) => {
             let minutes = lay_age(out, at, run, limit);
             lay_numbered(out, minutes, b", age", age)

@@ -2,14 +2,16 @@
 use Prim.Native.Nat.{ℕ, _≤_, _<_}
 use mathlib.Core.Path.{_≡_}
 use mathlib.Core.List.{List}
-use lib.IntN.{ℤ}
+use mathlib.Core.Logic.{_⊎_}
+use lib.IntN.{ℤ, pos}
 use lib.ListN.{length, take}
 use Rattle.numbers.specs.Bytes.{Bytes, byteAt}
+use Rattle.numbers.specs.Column.{at}
 use Rattle.terms.specs.Reply.{is}
 use Rattle.terms.specs.Refusals.{answer}
 use Rattle.terms.specs.declared.refusal.Refusal.{Refusal}
 use Rattle.terms.specs.declared.refusal.Answer.{Answer}
-use Rattle.group.specs.Group.{Group}
+use Rattle.group.specs.Group.{Group, n3}
 use Rattle.group.specs.Columns.{judgement, sumsOf, Judges, SameOutcome}
 use Rattle.group.specs.declared.judge.Judgement.{Judgement}
 use Rattle.group.specs.Accepted.{Accepted}
@@ -21,7 +23,8 @@ use Rattle.group.proofs.Ties.{group-larger-first}
 use Rattle.records.specs.declared.day.DayRecord.{DayRecord}
 use Rattle.records.specs.declared.end.EndRecord.{EndRecord}
 use Rattle.records.specs.Layouts.{dayAt, groupAt, endAt, groupResultAt, unitResultAt}
-use Rattle.records.specs.Reading.{dayOf, endOf}
+use Rattle.records.specs.Reading.{dayOf, endOf, unitIn}
+use Rattle.records.specs.Decoding.{Inside}
 use Rattle.writers.specs.Columns.{Columns, columnsIn}
 use Rattle.writers.specs.Results.{resultLength}
 use Rattle.writers.specs.Trips.{Values}
@@ -35,7 +38,7 @@ use Rattle.day.specs.declared.offer.Step.{Step}
 use Rattle.day.specs.declared.offer.Offered.the-variants.{Taken, Refused}
 use Rattle.day.specs.Days.{fresh, opened}
 use Rattle.day.specs.Offers.{Offers}
-use Rattle.day.proofs.Demands.{One, offer-answered, refusal-keeps, block-accepted, group-told, unit-told, block-fair}
+use Rattle.day.proofs.Demands.{One, offer-answered, refusal-keeps, block-accepted, group-told, unit-told, block-fair, block-inside}
 use Rattle.day.proofs.Again.{day-same, block-same, end-same}
 use Rattle.desk.specs.Desk.{Checks}
 use Rattle.desk.specs.Header.{Replied, CallTaken}
@@ -104,6 +107,11 @@ module _ (day : Day) (s room : List ℕ) {step : Step} {exit : List ℕ} (o : Of
   -- ---- 3. In step 2 the cut is fair: each sentence is a field of `Demand3`.
   pub block-cut-fairly : roleOf (byteAt s 0) ≡ Block → Demand3 (blockGroup s)
   block-cut-fairly = block-fair day s room o
+
+  -- At the end a unit is at zero, or inside both its margins and its interval.
+  pub units-end-inside : roleOf (byteAt s 0) ≡ Block → (i : ℕ) → i < blockCount s
+      → (at (n3 (blockGroup s)) i ≡ pos 0) ⊎ Inside (unitIn s i) (at (n3 (blockGroup s)) i)
+  units-end-inside = block-inside day s room o
 
   -- ---- The odd kWh go to the largest remainders, among equal ones to the larger units first, then to the earlier.
   pub block-larger-first : roleOf (byteAt s 0) ≡ Block → LargerFirst (blockGroup s)

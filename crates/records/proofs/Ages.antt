@@ -8,7 +8,6 @@ use borrow.Author.Tests.{ltb-true, ltb-false, leb-false, lt-leb, le-leb}
 use Rattle.numbers.specs.Choice.{pick}
 use Rattle.terms.specs.Reply.{Reply, is, refused, need}
 use Rattle.terms.specs.Refusals.{numberOf, whyOf, check}
-use Rattle.terms.specs.Checks.{amountChecks, marginChecks}
 use Rattle.terms.specs.declared.refusal.Why.the-variants as W
 use Rattle.terms.specs.declared.refusal.Fault.{Fault}
 use Rattle.terms.specs.declared.refusal.Fault.the-variants as F
@@ -20,7 +19,8 @@ use Rattle.records.specs.declared.day.DayRecord.{DayRecord}
 use Rattle.records.specs.declared.unit.UnitRecord.{UnitRecord}
 use Rattle.records.specs.declared.key.Last.{Last}
 use Rattle.records.specs.Layouts.{groupAt}
-use Rattle.records.specs.Reading.{aged, madeAfter, positionWhy, marginFault, also, markFaults, valueFaults, unitFaults, groupFieldsOf}
+use Rattle.records.specs.Reading.{aged, madeAfter, positionWhy, marginFault, also, markFaults, rangeFaults, orderFaults, quantityFaults, valueFaults, unitFaults, groupFieldsOf}
+use Rattle.records.proofs.Checks.{Only, only-fine, only-check, only-also}
 
 module _ (run made limit : ℕ) where
   -- what was made after the run is not aged
@@ -99,36 +99,26 @@ module _ (s : List ℕ) (day : DayRecord) (last : Last) {p : ℕ} where
 abbrev ofAge : Fault → Bool
 ofAge fault = isOf (11 ∷ 18 ∷ []) (numberOf (whyOf fault))
 
+abbrev NotOfAge : Fault → Type 0
+NotOfAge fault = ofAge fault ≡ false
+
 -- no fault of these checks is one of age
 abbrev Early : Checked → Type 0
-Early c = (fault : Fault) → c ≡ Faulty fault → ofAge fault ≡ false
-
-early-check : (t : Bool) (fault : Fault) (rest : Checked) → ofAge fault ≡ false → Early rest → Early (check t fault rest)
-unfolding check
-early-check true fault rest other h another e = h another e
-early-check false fault rest other h another e =
-    let z : fault ≡ another = cc in
-    rw z at other
-
-early-also : (c rest : Checked) → Early c → Early rest → Early (also c rest)
-unfolding also
-early-also Fine rest h k = k
-early-also (Faulty fault) rest h k = h
-
-early-fine : Early Fine
-early-fine fault e =
-    let z : _≡_ {A = ℕ} 0 1 = cc in
-    absurd (omega arith)
+Early = Only NotOfAge
 
 module _ (u : UnitRecord) (floor : ℕ) (day : DayRecord) where
   values-early : Early (valueFaults u floor)
-  unfolding valueFaults markFaults amountChecks marginChecks
+  unfolding valueFaults markFaults quantityFaults rangeFaults orderFaults
   values-early =
-      early-also _ _
-      (early-check _ F.Number _ refl (early-check _ F.Class _ refl (early-check _ F.Coincide _ refl
-      (early-check _ F.Nominated _ refl (early-check _ F.NotNominated _ refl early-fine)))))
-      (early-check _ F.N _ refl (early-check _ F.Pc _ refl (early-check _ F.StepDown _ refl
-      (early-check _ F.StepUp _ refl (early-check _ F.Crossed _ refl early-fine)))))
+      only-check NotOfAge _ F.Kind _ refl
+      (only-also NotOfAge _ _
+      (only-check NotOfAge _ F.Number _ refl (only-check NotOfAge _ F.Class _ refl (only-check NotOfAge _ F.Coincide _ refl
+      (only-check NotOfAge _ F.Nominated _ refl (only-check NotOfAge _ F.NotNominated _ refl (only-fine NotOfAge))))))
+      (only-also NotOfAge _ _
+      (only-check NotOfAge _ F.N _ refl (only-check NotOfAge _ F.Pc _ refl (only-check NotOfAge _ F.StepDown _ refl
+      (only-check NotOfAge _ F.StepUp _ refl (only-check NotOfAge _ F.Lower _ refl (only-check NotOfAge _ F.Upper _ refl (only-fine NotOfAge)))))))
+      (only-check NotOfAge _ F.Crossed _ refl (only-check NotOfAge _ F.EndsCrossed _ refl (only-check NotOfAge _ F.NotFull _ refl
+      (only-check NotOfAge _ F.WorkingCrossed _ refl (only-fine NotOfAge)))))))
 
   by-margins : (fault : Fault) → ofAge fault ≡ true → unitFaults u floor day ≡ Faulty fault
       → (aged (day .run) (u .made) (day .«margin_limit») ≡ false) × (marginFault (day .run) (u .made) ≡ fault)
@@ -136,7 +126,7 @@ module _ (u : UnitRecord) (floor : ℕ) (day : DayRecord) where
   by-margins fault late = go (valueFaults u floor) values-early
     where
       tested : (t : Bool) → check t (marginFault (day .run) (u .made)) Fine ≡ Faulty fault → (t ≡ false) × (marginFault (day .run) (u .made) ≡ fault)
-      tested true e = absurd (false≢true (sym (early-fine fault e) ∙ late))
+      tested true e = absurd (false≢true (sym (only-fine NotOfAge fault e) ∙ late))
       tested false e = (refl, cc)
 
       go : (c : Checked) → Early c → also c (check (aged (day .run) (u .made) (day .«margin_limit»)) (marginFault (day .run) (u .made)) Fine) ≡ Faulty fault

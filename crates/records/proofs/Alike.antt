@@ -1,8 +1,10 @@
 -- Where bytes agree up to a place, what lies before it is read alike: values, records, and the units of a block.
 use Prim.Native.Nat.{ℕ, zero, suc, _+_, _-_, _≤_, _<_}
 use mathlib.Core.Path.{_≡_, refl, sym, ap, _∙_}
+use mathlib.Core.Bool.{Bool, true, false}
 use mathlib.Core.List.{List}
 use native.Mathlib.Omega.{arith}
+use lib.Dec.{eqb}
 use lib.ListN.{length, take, length-take}
 use lib.Seq.{getD-take}
 use Rattle.numbers.specs.Bytes.{byteAt, be16, be32, signed32}
@@ -14,12 +16,13 @@ use Rattle.records.specs.declared.key.Last.{Last}
 use Rattle.records.specs.Layouts.{Width, u8, u16, u32, i32, Field, size, valueOf, valueAt}
 use Rattle.records.specs.Layouts.{dayDay, dayQuarters, dayRun, dayPositionLimit, dayMarginLimit, dayAt}
 use Rattle.records.specs.Layouts.{groupLength, groupBrp, groupZone, groupQuarter, groupCount, groupMade, groupAt}
-use Rattle.records.specs.Layouts.{unitNumber, unitClass, unitCoincide, unitNominated, unitN, unitPc, unitStepDown, unitStepUp, unitMade, unitAt, lengthOf}
+use Rattle.records.specs.Layouts.{unitKind, intervalKind, unitLength, intervalLength, unitNumber, unitClass, unitCoincide, unitNominated, unitN, unitPc, unitStepDown, unitStepUp, unitMade, unitLower, unitUpper}
+use Rattle.records.specs.Layouts.{fullLower, fullUpper, withEnds, bodyAt, unitAt, lengthOf}
 use Rattle.records.specs.Layouts.{endLength, endGroups, endAt}
 use Rattle.records.specs.Reading.{dayEnd, dayFieldsOf, groupFieldsOf, endFieldsOf, unitHeadOf, unitEnd, placeFrom, unitFieldsOf, unitOf, unitsOf}
 use Rattle.records.proofs.Accepted.{units-accepted}
 use Rattle.records.proofs.Places.{place-from}
-use Rattle.records.proofs.UnitHeads.{unit-past, unit-long, read-end, unit-moved}
+use Rattle.records.proofs.UnitHeads.{length-least, unit-past, unit-long, read-end, unit-moved}
 
 -- t has the first n bytes of s
 pub record Agree (s t : List ℕ) (n : ℕ) : Type 0 where
@@ -74,9 +77,8 @@ module _ (s t : List ℕ) (n : ℕ) (a : Agree s t n) where
   end-kept groups h = rw (end-same h)
 
   -- ---- units
-  unit-same : (at : ℕ) → unitEnd s at ≤ n → unitAt t at ≡ unitAt s at
-  unfolding unitAt
-  unit-same at h =
+  body-same : (at : ℕ) → at + unitLength ≤ n → bodyAt t at ≡ bodyAt s at
+  body-same at h =
       rw (
         field-same at unitNumber (omega arith),
         field-same at unitClass (omega arith),
@@ -88,6 +90,22 @@ module _ (s t : List ℕ) (n : ℕ) (a : Agree s t n) where
         field-same at unitStepUp (omega arith),
         field-same at unitMade (omega arith),
       )
+
+  unit-same : (at : ℕ) → unitEnd s at ≤ n → unitAt t at ≡ unitAt s at
+  unfolding unitAt
+  unit-same at h = go (eqb (byteAt s at) intervalKind) refl
+    where
+      body : bodyAt t at ≡ bodyAt s at
+      body = body-same at (omega (arith, length-least (unitAt s at)))
+
+      go : (own : Bool) → eqb (byteAt s at) intervalKind ≡ own → unitAt t at ≡ unitAt s at
+      go true e =
+          let long : at + intervalLength ≤ n = rw e at h in
+          rw (a .same at (omega arith), e, field-same at unitLower (omega arith), field-same at unitUpper (omega arith))
+          (ap (λ (u : UnitRecord). withEnds u intervalKind (valueAt s at unitLower) (valueAt s at unitUpper)) body)
+      go false e =
+          let long : at + unitLength ≤ n = rw e at h in
+          rw (a .same at (omega arith), e) (ap (λ (u : UnitRecord). withEnds u unitKind fullLower fullUpper) body)
 
   ends-same : (at : ℕ) → unitEnd s at ≤ n → unitEnd t at ≡ unitEnd s at
   ends-same at h = ap (λ (u : UnitRecord). at + lengthOf u) (unit-same at h)

@@ -41,3 +41,30 @@ pub passed-is : {A : Type 0} (place : Fault → ℕ) (checks : Checked) (rest : 
 unfolding passed
 passed-is place Fine rest e = (refl, e)
 passed-is place (Faulty fault) rest e = never e
+
+-- each fault that some checks can tell is of a sort
+abbrev pub Only : (Fault → Type 0) → Checked → Type 0
+Only P c = (fault : Fault) → c ≡ Faulty fault → P fault
+
+module _ (P : Fault → Type 0) where
+  pub only-fine : Only P Fine
+  only-fine fault e =
+      let z : _≡_ {A = ℕ} 0 1 = cc in
+      absurd (omega arith)
+
+  pub only-check : (t : Bool) (fault : Fault) (rest : Checked) → P fault → Only P rest → Only P (check t fault rest)
+  unfolding check
+  only-check true fault rest here h another e = h another e
+  only-check false fault rest here h another e =
+      let z : fault ≡ another = cc in
+      rw z at here
+
+  -- a test that holds tells no fault
+  pub only-sure : (t : Bool) (fault : Fault) (rest : Checked) → t ≡ true → Only P rest → Only P (check t fault rest)
+  unfolding check
+  only-sure t fault rest e h = rw e h
+
+  pub only-also : (c rest : Checked) → Only P c → Only P rest → Only P (also c rest)
+  unfolding also
+  only-also Fine rest h k = k
+  only-also (Faulty fault) rest h k = h

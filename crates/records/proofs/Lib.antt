@@ -6,6 +6,7 @@ pub mod UnitHeads
 pub mod Turns
 pub mod Accepted
 pub mod Marks
+pub mod Working
 pub mod Unique
 pub mod Read
 pub mod Ages

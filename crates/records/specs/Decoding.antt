@@ -1,8 +1,10 @@
 -- A block that passed, as columns: entry i of each is of the unit of index i.
 use Prim.Native.Nat.{ℕ}
-use mathlib.Core.Bool.{Bool}
+use mathlib.Core.Path.{_≡_}
+use mathlib.Core.Bool.{Bool, true}
 use mathlib.Core.List.{List}
 use lib.IntN.{ℤ}
+use lib.Signed.{leZ}
 use Rattle.numbers.specs.Column.{column}
 use Rattle.numbers.specs.Sum.{bit}
 use Rattle.terms.specs.Quantities.{implicit, consideredOf}
@@ -16,6 +18,13 @@ unitN0 u = consideredOf (u .class) (u .nominated) (u .coincide) (u .n .0) (u .pc
 
 abbrev pub unitImplicit : UnitRecord → Bool
 unitImplicit u = implicit (u .class) (u .nominated) (u .coincide)
+
+-- a quantity lies inside a unit's margins and inside its interval
+pub record Inside (u : UnitRecord) (z : ℤ) : Type 0 where
+  pub down : leZ (u .«step_down») z ≡ true
+  pub up : leZ z (u .«step_up») ≡ true
+  pub lower : leZ (u .lower) z ≡ true
+  pub upper : leZ z (u .upper) ≡ true
 
 -- the columns of the first so many units of a block
 abbrev pub numbersIn : List ℕ → ℕ → List ℕ

@@ -1,10 +1,12 @@
 -- "House records": one byte of kind, then the fields, each at its place; numbers have the most significant byte first, signed ones are two's complement.
 use Prim.Native.Nat.{ℕ, _+_}
-use mathlib.Core.Bool.{Bool, true, _&&_}
+use mathlib.Core.Bool.{Bool, true, _&&_, _||_}
 use mathlib.Core.List.{List, [], _∷_, _++_}
 use lib.Dec.{eqb}
-use lib.IntN.{ℤ}
+use lib.IntN.{ℤ, pos, negℤ}
+use lib.Signed.{leZ}
 use Rattle.numbers.specs.Bytes.{byteAt, be16, be32, bytes16, bytes32, signed32, bits32}
+use Rattle.numbers.specs.Choice.{pick}
 use Rattle.terms.specs.declared.quantity.Margins.{Margins}
 use Rattle.records.specs.declared.day.DayRecord.{DayRecord}
 use Rattle.records.specs.declared.group.GroupRecord.{GroupRecord}
@@ -163,16 +165,22 @@ groupAt s at =
 unfoldable pub groupBytes : GroupRecord → List ℕ
 groupBytes g = behind (groupKind ∷ []) (groupTable g)
 
--- ---- 03h unit, 26 bytes
+-- ---- 03h unit, 26 bytes, and 04h unit with its interval, 34 bytes
 abbrev pub unitKind : ℕ
 unitKind = 3
 
+abbrev pub intervalKind : ℕ
+intervalKind = 4
+
 -- a record of this kind is a unit's
 abbrev pub isUnit : ℕ → Bool
-isUnit kind = eqb kind unitKind
+isUnit kind = eqb kind unitKind || eqb kind intervalKind
 
 abbrev pub unitLength : ℕ
 unitLength = 26
+
+abbrev pub intervalLength : ℕ
+intervalLength = 34
 
 abbrev pub unitNumber : Field
 unitNumber = field 1 u16
@@ -201,6 +209,16 @@ unitStepUp = field 18 i32
 abbrev pub unitMade : Field
 unitMade = field 22 u32
 
+-- the interval's ends, in an 04h alone
+abbrev pub unitLower : Field
+unitLower = field 26 i32
+
+abbrev pub unitUpper : Field
+unitUpper = field 30 i32
+
+abbrev pub endsTable : UnitRecord → List Entry
+endsTable u = pick (eqb (u .kind) intervalKind) (entry unitLower (u .lower) ∷ entry unitUpper (u .upper) ∷ []) []
+
 abbrev pub unitTable : UnitRecord → List Entry
 unitTable u =
     entry unitNumber (u .number)
@@ -212,9 +230,16 @@ unitTable u =
     ∷ entry unitStepDown (u .«step_down»)
     ∷ entry unitStepUp (u .«step_up»)
     ∷ entry unitMade (u .made)
-    ∷ []
+    ∷ endsTable u
 
--- the record of these values
+-- the ends that a 03h has
+abbrev pub fullLower : ℤ
+fullLower = negℤ (pos 1000000)
+
+abbrev pub fullUpper : ℤ
+fullUpper = pos 1000000
+
+-- the record of these values, a 03h
 abbrev pub unitWith : ℕ → ℕ → ℕ → ℕ → ℤ → ℤ → ℤ → ℤ → ℕ → UnitRecord
 unitWith number class coincide nominated n pc step-down step-up made =
     record {
@@ -227,10 +252,32 @@ unitWith number class coincide nominated n pc step-down step-up made =
       «step_down» = step-down;
       «step_up» = step-up;
       made = made;
+      kind = unitKind;
+      lower = fullLower;
+      upper = fullUpper;
     }
 
-unfoldable pub unitAt : List ℕ → ℕ → UnitRecord
-unitAt s at =
+-- the same values with a kind and two ends
+abbrev pub withEnds : UnitRecord → ℕ → ℤ → ℤ → UnitRecord
+withEnds u kind lower upper =
+    record {
+      number = u .number;
+      class = u .class;
+      coincide = u .coincide;
+      nominated = u .nominated;
+      n = u .n;
+      pc = u .pc;
+      «step_down» = u .«step_down»;
+      «step_up» = u .«step_up»;
+      made = u .made;
+      kind = kind;
+      lower = lower;
+      upper = upper;
+    }
+
+-- the body, which both kinds have
+abbrev pub bodyAt : List ℕ → ℕ → UnitRecord
+bodyAt s at =
     unitWith
     (valueAt s at unitNumber)
     (valueAt s at unitClass)
@@ -242,20 +289,42 @@ unitAt s at =
     (valueAt s at unitStepUp)
     (valueAt s at unitMade)
 
+-- and an 04h, which has its ends behind it
+abbrev pub intervalAt : List ℕ → ℕ → UnitRecord
+intervalAt s at = withEnds (bodyAt s at) intervalKind (valueAt s at unitLower) (valueAt s at unitUpper)
+
+-- an 04h has its own ends, and any other the full ones
+unfoldable pub unitAt : List ℕ → ℕ → UnitRecord
+unitAt s at =
+    let own = eqb (byteAt s at) intervalKind in
+    withEnds (bodyAt s at) (pick own intervalKind unitKind) (pick own (valueAt s at unitLower) fullLower) (pick own (valueAt s at unitUpper) fullUpper)
+
 unfoldable pub unitBytes : UnitRecord → List ℕ
-unitBytes u = behind (unitKind ∷ []) (unitTable u)
+unitBytes u = behind (u .kind ∷ []) (unitTable u)
 
 -- how many bytes a unit's record has
 abbrev pub lengthOf : UnitRecord → ℕ
-lengthOf u = unitLength
+lengthOf u = pick (eqb (u .kind) intervalKind) intervalLength unitLength
 
 -- no unit record is longer
 abbrev pub longestUnit : ℕ
-longestUnit = unitLength
+longestUnit = intervalLength
 
--- the margins that the steps work with
+-- the larger of two, and the smaller
+abbrev pub largerOf : ℤ → ℤ → ℤ
+largerOf a b = pick (leZ a b) b a
+
+abbrev pub smallerOf : ℤ → ℤ → ℤ
+smallerOf a b = pick (leZ a b) a b
+
+-- the working margins: M- and M+ of a 03h; of an 04h the larger of M- and the lower end, and the smaller of M+ and the upper end
 abbrev pub marginsOf : UnitRecord → Margins
-marginsOf u = record { «step_down» = u .«step_down»; «step_up» = u .«step_up» }
+marginsOf u =
+    let own = eqb (u .kind) intervalKind in
+    record {
+      «step_down» = pick own (largerOf (u .«step_down») (u .lower)) (u .«step_down»);
+      «step_up» = pick own (smallerOf (u .«step_up») (u .upper)) (u .«step_up»);
+    }
 
 -- ---- 0Fh end, 5 bytes
 abbrev pub endKind : ℕ

@@ -4,13 +4,14 @@ use mathlib.Core.Bool.{Bool, true, _&&_, _||_}
 use mathlib.Core.List.{List}
 use lib.Dec.{eqb, leb, ltb}
 use lib.IntN.{pos}
+use lib.Signed.{leZ}
 use lib.ListN.{length}
 use Rattle.numbers.specs.Bytes.{byteAt}
 use Rattle.numbers.specs.Choice.{pick, eqZ}
 use Rattle.terms.specs.Reply.{Reply, is, need, next}
 use Rattle.terms.specs.Refusals.{numberOf, check, passed}
 use Rattle.terms.specs.Quantities.{knownClass}
-use Rattle.terms.specs.Checks.{isFlag, unitCount, amountChecks}
+use Rattle.terms.specs.Checks.{isFlag, unitCount, inRange}
 use Rattle.terms.specs.declared.refusal.Why.{Why}
 use Rattle.terms.specs.declared.refusal.Why.the-variants as W
 use Rattle.terms.specs.declared.refusal.Fault.{Fault}
@@ -26,8 +27,8 @@ use Rattle.records.specs.declared.key.Last.{Last}
 use Rattle.records.specs.declared.key.Last.the-variants.{Nothing, Block}
 use Rattle.records.specs.Layouts.{dayKind, dayLength, dayQuarters, dayAt, dayLengthOf}
 use Rattle.records.specs.Layouts.{groupKind, groupLength, groupBrp, groupQuarter, groupCount, groupMade, groupAt}
-use Rattle.records.specs.Layouts.{unitKind, unitAt, lengthOf, marginsOf}
-use Rattle.records.specs.Layouts.{unitNumber, unitClass, unitCoincide, unitNominated, unitN, unitPc, unitStepDown, unitStepUp, unitMade}
+use Rattle.records.specs.Layouts.{intervalKind, isUnit, unitAt, lengthOf, fullLower, fullUpper, marginsOf}
+use Rattle.records.specs.Layouts.{unitNumber, unitClass, unitCoincide, unitNominated, unitN, unitPc, unitStepDown, unitStepUp, unitMade, unitLower, unitUpper}
 use Rattle.records.specs.Layouts.{endKind, endLength, endGroups, endAt}
 
 -- the head of a record of a kind and a length that is to begin at a place; where it ends
@@ -113,9 +114,9 @@ unfoldable pub endOf : List ℕ → ℕ → Reply EndRecord
 endOf s groups = next (endHeadOf s) λ _. endFieldsOf s groups
 
 -- ---- the unit records of a block
--- the kind of unit record that is due at a place
+-- the kind of unit record that is due at a place: 04h where one begins there, and else 03h
 abbrev pub kindDue : List ℕ → ℕ → ℕ
-kindDue s at = unitKind
+kindDue s at = unitAt s at .kind
 
 -- the head of the unit record that is to begin at a place
 abbrev pub unitHeadOf : List ℕ → ℕ → Reply ℕ
@@ -153,9 +154,36 @@ markFaults u floor =
     (check (eqb (u .nominated) 1 || eqZ (u .n .0) (pos 0)) F.NotNominated
     Fine))))
 
--- what a unit's values can have wrong
+-- 8 for each quantity in turn
+unfoldable pub rangeFaults : UnitRecord → Checked
+rangeFaults u =
+    check (inRange (u .n .0)) F.N
+    (check (inRange (u .pc .0)) F.Pc
+    (check (inRange (u .«step_down»)) F.StepDown
+    (check (inRange (u .«step_up»)) F.StepUp
+    (check (inRange (u .lower)) F.Lower
+    (check (inRange (u .upper)) F.Upper
+    Fine)))))
+
+-- a 03h has the full ends
+abbrev pub endsFit : UnitRecord → Bool
+endsFit u = eqb (u .kind) intervalKind || (eqZ (u .lower) fullLower && eqZ (u .upper) fullUpper)
+
+-- 9 of margins, of ends and of a 03h with ends of its own, then 19
+unfoldable pub orderFaults : UnitRecord → Checked
+orderFaults u =
+    check (leZ (u .«step_down») (u .«step_up»)) F.Crossed
+    (check (leZ (u .lower) (u .upper)) F.EndsCrossed
+    (check (endsFit u) F.NotFull
+    (check (leZ (marginsOf u .«step_down») (marginsOf u .«step_up»)) F.WorkingCrossed
+    Fine)))
+
+unfoldable pub quantityFaults : UnitRecord → Checked
+quantityFaults u = also (rangeFaults u) (orderFaults u)
+
+-- what a unit's values can have wrong; 2 is of those given as columns, whose kind no head told
 unfoldable pub valueFaults : UnitRecord → ℕ → Checked
-valueFaults u floor = also (markFaults u floor) (amountChecks (u .n .0) (u .pc .0) (marginsOf u))
+valueFaults u floor = check (isUnit (u .kind)) F.Kind (also (markFaults u floor) (quantityFaults u))
 
 -- the same, and then the age of its margins, by the day
 unfoldable pub unitFaults : UnitRecord → ℕ → DayRecord → Checked
@@ -164,6 +192,7 @@ unitFaults u floor day =
 
 -- the place in the record of what is at fault
 abbrev pub faultPlace : Fault → ℕ
+faultPlace F.Kind = 0
 faultPlace F.Number = unitNumber .place
 faultPlace F.Class = unitClass .place
 faultPlace F.Coincide = unitCoincide .place
@@ -173,7 +202,12 @@ faultPlace F.N = unitN .place
 faultPlace F.Pc = unitPc .place
 faultPlace F.StepDown = unitStepDown .place
 faultPlace F.StepUp = unitStepUp .place
+faultPlace F.Lower = unitLower .place
+faultPlace F.Upper = unitUpper .place
 faultPlace F.Crossed = unitStepUp .place
+faultPlace F.EndsCrossed = unitUpper .place
+faultPlace F.NotFull = unitUpper .place
+faultPlace F.WorkingCrossed = unitLower .place
 faultPlace F.Ahead = unitMade .place
 faultPlace F.Age = unitMade .place
 

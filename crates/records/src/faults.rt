@@ -9,12 +9,13 @@ ghost use Rattle.terms.specs.Refusals.{check};
 ghost use Rattle.terms.specs.declared.refusal.Checked.the-variants.{Fine};
 ghost use Rattle.terms.specs.declared.refusal.Fault.the-variants.{NotNominated};
 ghost use Rattle.records.specs.Reading.{markFaults, valueFaults, unitFaults};
-ghost use Rattle.records.specs.Inner.{marksPass};
+ghost use Rattle.records.specs.Inner.{isPair, endsPass, marksPass};
 use crate::age::is_aged;
 use crate::age::margin_fault;
 use crate::day::DayRecord;
+use crate::quantities::quantities;
 use crate::unit::UnitRecord;
-use terms::check::amounts;
+use crate::unit::is_unit;
 use terms::check::class;
 use terms::check::flag;
 use terms::check::position;
@@ -59,11 +60,14 @@ fn marks(u: UnitRecord, floor: u32) -> Checked
 pub fn faults(u: UnitRecord, floor: u32) -> Checked
     ensures { λ r. ⌜ r ≡ valueFaults u floor ⌝ }
 {
+    if !is_unit(u.kind) {
+        return Checked::Faulty(Fault::Kind);
+    }
     let m = marks(u, floor);
     let Checked::Fine = m else {
         return m;
     };
-    amounts(u.n, u.pc, u.margins())
+    quantities(u)
 }
 
 // The same, and then the margins' age, by the day.
@@ -80,7 +84,33 @@ pub fn unit_faults(u: UnitRecord, floor: u32, day: DayRecord) -> Checked
     Checked::Faulty(margin_fault(day.run, u.made))
 }
 
-// Whether a unit passes in all but the range of N and its margins, which are asked of all units at once.
+// Whether two margins, or two ends, lie in their ranges and do not cross.
+fn is_pair(low: i32, high: i32) -> bool
+    ensures { λ r. ⌜ r ≡ isPair low high ⌝ }
+{
+    if low < -UnitRecord::LIMIT {
+        return false;
+    }
+    if high < low {
+        return false;
+    }
+    high <= UnitRecord::LIMIT
+}
+
+// Whether the margins and the ends of an 04h do; of a 03h nothing is asked, whose margins are the working ones.
+fn ends_pass(u: UnitRecord) -> bool
+    ensures { λ r. ⌜ r ≡ endsPass u ⌝ }
+{
+    if u.kind != UnitRecord::INTERVAL_KIND {
+        return true;
+    }
+    if !is_pair(u.step_down, u.step_up) {
+        return false;
+    }
+    is_pair(u.lower, u.upper)
+}
+
+// Whether a unit passes in all but the range of N and its working margins, which are asked of all units at once.
 pub fn marks_pass(u: UnitRecord, floor: u32, day: DayRecord) -> bool
     ensures { λ r. ⌜ r ≡ marksPass u floor day ⌝ }
 {
@@ -90,5 +120,8 @@ pub fn marks_pass(u: UnitRecord, floor: u32, day: DayRecord) -> bool
     let Checked::Fine = position(u.pc.0) else {
         return false;
     };
-    is_aged(day.run, u.made, day.margin_limit)
+    if !is_aged(day.run, u.made, day.margin_limit) {
+        return false;
+    }
+    ends_pass(u)
 }

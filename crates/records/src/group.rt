@@ -54,7 +54,8 @@ impl GroupRecord {
     pub const UNITS: usize = terms::check::UNITS;
 
     // No block is longer.
-    pub const LONGEST_BLOCK: usize = GroupRecord::LEN + UnitRecord::LEN * GroupRecord::UNITS;
+    pub const LONGEST_BLOCK: usize = GroupRecord::LEN
+        + UnitRecord::INTERVAL_LEN * GroupRecord::UNITS;
 
     pub fn new(brp: u16, zone: u8, quarter: u8, count: u8, made: u32) -> GroupRecord
         ensures { λ r. ⌜ r ≡ groupWith brp zone quarter count made ⌝ }

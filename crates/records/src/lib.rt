@@ -8,6 +8,7 @@ pub mod group;
 pub mod group_result;
 pub mod head;
 pub mod key;
+mod quantities;
 pub mod unit;
 pub mod unit_result;
 pub mod units;

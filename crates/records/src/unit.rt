@@ -1,8 +1,8 @@
-// The unit record, 03h.
+// The unit record: 03h, and 04h with an interval of its own.
 ghost use mathlib.Core.Path.{_≡_};
-ghost use Prim.Native.Nat.{_≤_};
+ghost use Prim.Native.Nat.{_+_, _≤_};
 ghost use lib.ListN.{length};
-ghost use Rattle.records.specs.Layouts.{isUnit, unitWith, unitAt, lengthOf, marginsOf};
+ghost use Rattle.records.specs.Layouts.{unitLength, intervalLength, isUnit, unitWith, withEnds, bodyAt, intervalAt, unitAt, lengthOf, largerOf, smallerOf, marginsOf};
 ghost use Rattle.records.specs.Reading.{faultPlace, unitEnd};
 use numbers::bytes::i32_at;
 use numbers::bytes::u16_at;
@@ -22,12 +22,20 @@ pub struct UnitRecord {
     pub step_down: i32,
     pub step_up: i32,
     pub made: u32,
+    pub kind: u8,
+    pub lower: i32,
+    pub upper: i32,
 }
 
 impl UnitRecord {
     pub const KIND: u8 = 3;
 
     pub const LEN: usize = 26;
+
+    // An 04h, which has an interval of its own behind the body of a 03h.
+    pub const INTERVAL_KIND: u8 = 4;
+
+    pub const INTERVAL_LEN: usize = 34;
 
     pub const NUMBER: usize = 1;
 
@@ -47,9 +55,14 @@ impl UnitRecord {
 
     pub const MADE: usize = 22;
 
-    // N, PC and the margins lie from -LIMIT to LIMIT.
+    pub const LOWER: usize = 26;
+
+    pub const UPPER: usize = 30;
+
+    // N, PC, the margins and the ends lie from -LIMIT to LIMIT, which are the ends of a 03h.
     pub const LIMIT: i32 = Nomination::LIMIT;
 
+    // A 03h of these values.
     pub fn new(
         number: u16,
         class: u8,
@@ -73,6 +86,33 @@ impl UnitRecord {
             step_down,
             step_up,
             made,
+            kind: UnitRecord::KIND,
+            lower: -UnitRecord::LIMIT,
+            upper: UnitRecord::LIMIT,
+        }
+    }
+
+    // The same values with a kind and two ends.
+    pub fn with_ends(self, kind: u8, lower: i32, upper: i32) -> UnitRecord
+        ensures { λ r. ⌜ r ≡ withEnds self kind lower upper ⌝ }
+    {
+        let n = self.n;
+        let pc = self.pc;
+        let step_down = self.step_down;
+        let step_up = self.step_up;
+        UnitRecord {
+            number: self.number,
+            class: self.class,
+            coincide: self.coincide,
+            nominated: self.nominated,
+            n,
+            pc,
+            step_down,
+            step_up,
+            made: self.made,
+            kind,
+            lower,
+            upper,
         }
     }
 
@@ -80,13 +120,22 @@ impl UnitRecord {
     pub fn length(self) -> usize
         ensures { λ r. ⌜ r ≡ lengthOf self ⌝ }
     {
+        if self.kind == UnitRecord::INTERVAL_KIND {
+            return UnitRecord::INTERVAL_LEN;
+        }
         UnitRecord::LEN
     }
 
-    // The margins that the steps work with.
+    // The working margins: those of a 03h, and of an 04h the narrower of margins and interval.
     pub fn margins(self) -> Margins
         ensures { λ r. ⌜ r ≡ marginsOf self ⌝ }
     {
+        if self.kind == UnitRecord::INTERVAL_KIND {
+            return Margins {
+                step_down: larger(self.step_down, self.lower),
+                step_up: smaller(self.step_up, self.upper),
+            };
+        }
         Margins {
             step_down: self.step_down,
             step_up: self.step_up,
@@ -98,6 +147,7 @@ impl UnitRecord {
         ensures { λ r. ⌜ r ≡ faultPlace fault ⌝ }
     {
         match fault {
+            Fault::Kind => 0,
             Fault::Number => UnitRecord::NUMBER,
             Fault::Class => UnitRecord::CLASS,
             Fault::Coincide => UnitRecord::COINCIDE,
@@ -107,7 +157,12 @@ impl UnitRecord {
             Fault::Pc => UnitRecord::PC,
             Fault::StepDown => UnitRecord::STEP_DOWN,
             Fault::StepUp => UnitRecord::STEP_UP,
+            Fault::Lower => UnitRecord::LOWER,
+            Fault::Upper => UnitRecord::UPPER,
             Fault::Crossed => UnitRecord::STEP_UP,
+            Fault::EndsCrossed => UnitRecord::UPPER,
+            Fault::NotFull => UnitRecord::UPPER,
+            Fault::WorkingCrossed => UnitRecord::LOWER,
             Fault::Ahead => UnitRecord::MADE,
             Fault::Age => UnitRecord::MADE,
         }
@@ -118,13 +173,34 @@ impl UnitRecord {
 pub fn is_unit(kind: u8) -> bool
     ensures { λ r. ⌜ r ≡ isUnit kind ⌝ }
 {
-    kind == UnitRecord::KIND
+    if kind == UnitRecord::KIND {
+        return true;
+    }
+    kind == UnitRecord::INTERVAL_KIND
 }
 
-// The fields of a unit record that is there whole.
-pub fn unit_fields(s: &[u8], at: usize) -> UnitRecord
-    requires { ⌜ unitEnd (now s) at ≤ length (now s) ⌝ }
-    ensures { λ r. ⌜ r ≡ unitAt (now (s .entry)) at ⌝ }
+fn larger(a: i32, b: i32) -> i32
+    ensures { λ r. ⌜ r ≡ largerOf a b ⌝ }
+{
+    if a <= b {
+        return b;
+    }
+    a
+}
+
+fn smaller(a: i32, b: i32) -> i32
+    ensures { λ r. ⌜ r ≡ smallerOf a b ⌝ }
+{
+    if a <= b {
+        return a;
+    }
+    b
+}
+
+// The body of a unit record, which is all of a 03h.
+pub fn body_fields(s: &[u8], at: usize) -> UnitRecord
+    requires { ⌜ at + unitLength ≤ length (now s) ⌝ }
+    ensures { λ r. ⌜ r ≡ bodyAt (now (s .entry)) at ⌝ }
 {
     let number = u16_at(s, at + UnitRecord::NUMBER);
     let class = s[at + UnitRecord::CLASS];
@@ -148,10 +224,34 @@ pub fn unit_fields(s: &[u8], at: usize) -> UnitRecord
     )
 }
 
+// The fields of an 04h: the body, and its ends.
+pub fn interval_fields(s: &[u8], at: usize) -> UnitRecord
+    requires { ⌜ at + intervalLength ≤ length (now s) ⌝ }
+    ensures { λ r. ⌜ r ≡ intervalAt (now (s .entry)) at ⌝ }
+{
+    let lower = i32_at(s, at + UnitRecord::LOWER);
+    let upper = i32_at(s, at + UnitRecord::UPPER);
+    body_fields(s, at).with_ends(UnitRecord::INTERVAL_KIND, lower, upper)
+}
+
+// The fields of a unit record that is there whole.
+pub fn unit_fields(s: &[u8], at: usize) -> UnitRecord
+    requires { ⌜ unitEnd (now s) at ≤ length (now s) ⌝ }
+    ensures { λ r. ⌜ r ≡ unitAt (now (s .entry)) at ⌝ }
+{
+    if s[at] == UnitRecord::INTERVAL_KIND {
+        return interval_fields(s, at);
+    }
+    body_fields(s, at)
+}
+
 // Where the unit record that begins at a place, and is there whole, ends.
 pub fn unit_end(s: &[u8], at: usize) -> usize
     requires { ⌜ unitEnd (now s) at ≤ length (now s) ⌝ }
     ensures { λ r. ⌜ r ≡ unitEnd (now (s .entry)) at ⌝ }
 {
+    if s[at] == UnitRecord::INTERVAL_KIND {
+        return at + UnitRecord::INTERVAL_LEN;
+    }
     at + UnitRecord::LEN
 }

@@ -4,12 +4,13 @@ ghost use Prim.Native.Nat.{_≤_};
 ghost use lib.ListN.{length};
 ghost use Rattle.terms.specs.Refusals.{answer};
 ghost use Rattle.records.specs.Answers.{unitReply, unitRefusal};
-ghost use Rattle.records.specs.Inner.{isWhole};
+ghost use Rattle.records.specs.Inner.{isPlain, isInterval, isWhole};
 ghost use Rattle.records.specs.Layouts.{unitAt, lengthOf};
 ghost use Rattle.records.specs.Reading.{kindDue, unitHeadOf, unitEnd, unitFieldsOf, unitOf, unitsOf};
 use crate::day::DayRecord;
 use crate::faults::unit_faults;
 use crate::head::head;
+use crate::head::is_there;
 use crate::unit::UnitRecord;
 use crate::unit::unit_end;
 use crate::unit::unit_fields;
@@ -34,32 +35,51 @@ impl UnitAnswer {
     }
 }
 
-// Whether a unit record begins at a place, and lies there whole.
-pub fn is_whole(s: &[u8], at: usize) -> bool
+// Whether a 03h begins at a place, and lies there whole.
+pub fn is_plain(s: &[u8], at: usize) -> bool
+    ensures { λ r. ⌜ r ≡ isPlain (now (s .entry)) at ⌝ }
+{
+    is_there(s, at, UnitRecord::KIND, UnitRecord::LEN)
+}
+
+// Whether an 04h does.
+pub fn is_interval(s: &[u8], at: usize) -> bool
+    ensures { λ r. ⌜ r ≡ isInterval (now (s .entry)) at ⌝ }
+{
+    is_there(s, at, UnitRecord::INTERVAL_KIND, UnitRecord::INTERVAL_LEN)
+}
+
+// Whether a unit record of either kind does.
+fn is_whole(s: &[u8], at: usize) -> bool
     ensures { λ r. ⌜ r ≡ isWhole (now (s .entry)) at ⌝ }
 {
-    let n = s.len();
-    if n < UnitRecord::LEN {
-        return false;
+    if is_plain(s, at) {
+        return true;
     }
-    if n - UnitRecord::LEN < at {
-        return false;
+    is_interval(s, at)
+}
+
+// The kind of unit record that is due at a place: 04h where one begins there, and else 03h.
+fn kind_due(s: &[u8], at: usize) -> u8
+    ensures { λ r. ⌜ r ≡ kindDue (now (s .entry)) at ⌝ }
+{
+    if s.len() <= at {
+        return UnitRecord::KIND;
     }
-    s[at] == UnitRecord::KIND
+    if s[at] == UnitRecord::INTERVAL_KIND {
+        return UnitRecord::INTERVAL_KIND;
+    }
+    UnitRecord::KIND
 }
 
 // How many bytes the unit record has that begins at a place, be they there or not.
 pub fn unit_length(s: &[u8], at: usize) -> usize
     ensures { λ r. ⌜ r ≡ lengthOf (unitAt (now (s .entry)) at) ⌝ }
 {
+    if kind_due(s, at) == UnitRecord::INTERVAL_KIND {
+        return UnitRecord::INTERVAL_LEN;
+    }
     UnitRecord::LEN
-}
-
-// The kind of unit record that is due at a place.
-fn kind_due(s: &[u8], at: usize) -> u8
-    ensures { λ r. ⌜ r ≡ kindDue (now (s .entry)) at ⌝ }
-{
-    UnitRecord::KIND
 }
 
 // Where the unit record that is to begin at a place ends: 1 if nothing is there, 2, 1. Whether it lies there whole is one look, and what is wrong is asked only where it does not.

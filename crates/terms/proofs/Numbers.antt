@@ -74,9 +74,10 @@ module _ {A : Type 0} {l : List ℕ} where
 
 -- ---- the faults of a unit
 abbrev pub faultNumbers : List ℕ
-faultNumbers = 6 ∷ 7 ∷ 8 ∷ 9 ∷ 11 ∷ 18 ∷ []
+faultNumbers = 2 ∷ 6 ∷ 7 ∷ 8 ∷ 9 ∷ 11 ∷ 18 ∷ 19 ∷ []
 
 fault-listed : (fault : Fault) → isOf faultNumbers (numberOf (whyOf fault)) ≡ true
+fault-listed F.Kind = refl
 fault-listed F.Number = refl
 fault-listed F.Class = refl
 fault-listed F.Coincide = refl
@@ -86,7 +87,12 @@ fault-listed F.N = refl
 fault-listed F.Pc = refl
 fault-listed F.StepDown = refl
 fault-listed F.StepUp = refl
+fault-listed F.Lower = refl
+fault-listed F.Upper = refl
 fault-listed F.Crossed = refl
+fault-listed F.EndsCrossed = refl
+fault-listed F.NotFull = refl
+fault-listed F.WorkingCrossed = refl
 fault-listed F.Ahead = refl
 fault-listed F.Age = refl
 

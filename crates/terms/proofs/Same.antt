@@ -33,6 +33,7 @@ whys =
     ∷ W.CutShort
     ∷ W.PositionAhead
     ∷ W.MarginAhead
+    ∷ W.WorkingCrossed
     ∷ []
 
 abbrev pub whyBy : ℕ → Why
@@ -56,6 +57,7 @@ why-back W.EndCount = refl
 why-back W.Columns = refl
 why-back W.PositionAhead = refl
 why-back W.MarginAhead = refl
+why-back W.WorkingCrossed = refl
 
 pub why-same : (v w : Why) → numberOf v ≡ numberOf w → v ≡ w
 why-same v w e = sym (why-back v) ∙ ap whyBy e ∙ why-back w

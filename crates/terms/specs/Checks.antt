@@ -1,4 +1,4 @@
--- "Numbers given back": the checks of a unit's fields, in the document's order.
+-- "Numbers given back": what the checks of a unit's fields have in common, and the checks of the quantities of a unit given as columns, in the document's order.
 use Prim.Native.Nat.{ℕ}
 use mathlib.Core.Bool.{Bool, _&&_}
 use lib.Dec.{leb}
@@ -25,7 +25,7 @@ mostUnits = 64
 abbrev pub unitCount : ℕ → Bool
 unitCount count = leb 1 count && leb count mostUnits
 
--- a unit's quantities: 8 for each in turn, then 9
+-- the quantities of a unit given as columns: 8 for each in turn, then 9
 unfoldable pub marginChecks : Margins → Checked
 marginChecks m =
     check (inRange (m .«step_down»)) F.StepDown

@@ -30,6 +30,7 @@ numberOf W.EndCount = 14
 numberOf W.Columns = 15
 numberOf W.PositionAhead = 17
 numberOf W.MarginAhead = 18
+numberOf W.WorkingCrossed = 19
 
 -- a refusal as a reply
 abbrev pub refusal : {A : Type 0} → Refusal → Reply A
@@ -51,6 +52,7 @@ refusalOf (A.Refused r) = r
 
 -- why a fault of a unit is refused
 abbrev pub whyOf : Fault → Why
+whyOf F.Kind = W.Kind
 whyOf F.Number = W.UnitNumber
 whyOf F.Class = W.Flag
 whyOf F.Coincide = W.Flag
@@ -60,7 +62,12 @@ whyOf F.N = W.Range
 whyOf F.Pc = W.Range
 whyOf F.StepDown = W.Range
 whyOf F.StepUp = W.Range
+whyOf F.Lower = W.Range
+whyOf F.Upper = W.Range
 whyOf F.Crossed = W.Crossed
+whyOf F.EndsCrossed = W.Crossed
+whyOf F.NotFull = W.Crossed
+whyOf F.WorkingCrossed = W.WorkingCrossed
 whyOf F.Ahead = W.MarginAhead
 whyOf F.Age = W.MarginAge
 

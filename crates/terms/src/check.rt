@@ -5,7 +5,7 @@ ghost use Rattle.terms.specs.Quantities.{knownClass};
 ghost use Rattle.terms.specs.Refusals.{check};
 ghost use Rattle.terms.specs.Checks.{inRange, isFlag, unitCount, marginChecks, amountChecks};
 ghost use Rattle.terms.specs.declared.refusal.Checked.the-variants.{Fine};
-ghost use Rattle.terms.specs.declared.refusal.Fault.the-variants.{Class, Crossed, Pc};
+ghost use Rattle.terms.specs.declared.refusal.Fault.the-variants.{Class, Pc};
 use crate::quantity::Margins;
 use crate::quantity::Nomination;
 use crate::quantity::Position;
@@ -26,8 +26,8 @@ pub fn is_count(units: usize) -> bool
     units <= UNITS
 }
 
-// A nomination, or a margin, in its range.
-fn nomination(n: i32, fault: Fault) -> Checked
+// A nomination, a margin or an interval's end in its range.
+pub fn nomination(n: i32, fault: Fault) -> Checked
     ensures { λ r. ⌜ r ≡ check (inRange n) fault Fine ⌝ }
 {
     if n < -Nomination::LIMIT {
@@ -72,17 +72,17 @@ pub fn flag(b: u8, fault: Fault) -> Checked
     Checked::Faulty(fault)
 }
 
-// Margins that do not cross.
-fn ordered(step_down: i32, step_up: i32) -> Checked
-    ensures { λ r. ⌜ r ≡ check (leZ «step_down» «step_up») Crossed Fine ⌝ }
+// Two margins, or two ends, that do not cross.
+pub fn ordered(low: i32, high: i32, fault: Fault) -> Checked
+    ensures { λ r. ⌜ r ≡ check (leZ low high) fault Fine ⌝ }
 {
-    if step_up < step_down {
-        return Checked::Faulty(Fault::Crossed);
+    if high < low {
+        return Checked::Faulty(fault);
     }
     Checked::Fine
 }
 
-// A unit's margins: 8 for each, then 9.
+// Its margins: 8 for each, then 9.
 fn margins(m: Margins) -> Checked
     ensures { λ r. ⌜ r ≡ marginChecks m ⌝ }
 {
@@ -94,10 +94,10 @@ fn margins(m: Margins) -> Checked
     let Checked::Fine = up else {
         return up;
     };
-    ordered(m.step_down, m.step_up)
+    ordered(m.step_down, m.step_up, Fault::Crossed)
 }
 
-// A unit's quantities: 8 for each in turn, then 9.
+// The quantities of a unit given as columns: 8 for each in turn, then 9.
 pub fn amounts(n: Nomination, pc: Position, m: Margins) -> Checked
     ensures { λ r. ⌜ r ≡ amountChecks (n .0) (pc .0) m ⌝ }
 {

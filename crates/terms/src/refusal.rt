@@ -21,6 +21,7 @@ pub enum Why {
     Columns,
     PositionAhead,
     MarginAhead,
+    WorkingCrossed,
 }
 
 impl Why {
@@ -45,6 +46,7 @@ impl Why {
             Why::Columns => 15,
             Why::PositionAhead => 17,
             Why::MarginAhead => 18,
+            Why::WorkingCrossed => 19,
         }
     }
 }
@@ -66,6 +68,8 @@ pub fn no_refusal() -> Refusal
 
 // What can be wrong with a unit, field by field.
 pub enum Fault {
+    // A kind that no unit record has; only the block writer meets it.
+    Kind,
     Number,
     Class,
     Coincide,
@@ -75,7 +79,13 @@ pub enum Fault {
     Pc,
     StepDown,
     StepUp,
+    Lower,
+    Upper,
     Crossed,
+    EndsCrossed,
+    // A 03h whose ends are not the full ones; only the block writer meets it.
+    NotFull,
+    WorkingCrossed,
     Ahead,
     Age,
 }
@@ -85,6 +95,7 @@ impl Fault {
         ensures { λ r. ⌜ r ≡ whyOf self ⌝ }
     {
         match self {
+            Fault::Kind => Why::Kind,
             Fault::Number => Why::UnitNumber,
             Fault::Class => Why::Flag,
             Fault::Coincide => Why::Flag,
@@ -94,7 +105,12 @@ impl Fault {
             Fault::Pc => Why::Range,
             Fault::StepDown => Why::Range,
             Fault::StepUp => Why::Range,
+            Fault::Lower => Why::Range,
+            Fault::Upper => Why::Range,
             Fault::Crossed => Why::Crossed,
+            Fault::EndsCrossed => Why::Crossed,
+            Fault::NotFull => Why::Crossed,
+            Fault::WorkingCrossed => Why::WorkingCrossed,
             Fault::Ahead => Why::MarginAhead,
             Fault::Age => Why::MarginAge,
         }

@@ -5,7 +5,8 @@ use mathlib.Core.List.{List, [], _∷_}
 use lib.Dec.{eqb, ltb}
 use lib.ListN.{length, getD, take, drop}
 use Rattle.numbers.specs.Choice.{pick}
-use Rattle.records.specs.Layouts.{dayKind, dayWith, groupWith, unitWith, groupKind, unitKind, endKind}
+use Rattle.records.specs.declared.unit.UnitRecord.{UnitRecord}
+use Rattle.records.specs.Layouts.{dayKind, dayWith, groupWith, unitWith, withEnds, groupKind, unitKind, intervalKind, endKind}
 use Rattle.text.specs.declared.line.Line.{Line}
 use Rattle.text.specs.declared.line.Line.the-variants.{Day, Group, Unit, End, Passed, TooLong, Not}
 use Rattle.text.specs.declared.line.DayLine.{DayLine}
@@ -59,6 +60,15 @@ groupOf text word =
     ended groupKind (overAt text 6 (made .field))
     (Group (groupWith (brp .value) (zone .value) (quarter .value) (count .value) (made .value)))
 
+-- the nine values of a unit are a 03h where nothing stands after them; else two ends follow, and they are an 04h
+unfoldable pub endsOf : List ℕ → Field → UnitRecord → Line
+endsOf text made u =
+    let lower = i32At text 10 made in
+    let upper = i32At text 11 (lower .field) in
+    pick (overAt text 10 made .good) (Unit u)
+    (ended unitKind (overAt text 12 (upper .field))
+    (Unit (withEnds u intervalKind (lower .value) (upper .value))))
+
 unfoldable pub unitOf : List ℕ → Field → Line
 unitOf text word =
     let number = u16At text 1 word in
@@ -70,8 +80,7 @@ unitOf text word =
     let step-down = i32At text 7 (pc .field) in
     let step-up = i32At text 8 (step-down .field) in
     let made = minuteAt text 9 (step-up .field) in
-    ended unitKind (overAt text 10 (made .field))
-    (Unit
+    endsOf text (made .field)
     (unitWith
     (number .value)
     (class .value)
@@ -81,7 +90,7 @@ unitOf text word =
     (pc .value)
     (step-down .value)
     (step-up .value)
-    (made .value)))
+    (made .value))
 
 unfoldable pub endOf : List ℕ → Field → Line
 endOf text word =

@@ -4,7 +4,7 @@ ghost use mathlib.Core.Bool.{true, _&&_};
 ghost use Prim.Native.Nat.{_≤_};
 ghost use lib.Dec.{eqb};
 ghost use lib.ListN.{length};
-ghost use Rattle.text.specs.Line.{same, dayOf, groupOf, unitOf, endOf, fieldsOf, recordOf, uncommented, bareLength, bareOf, markLength, lineOf, listedFields, listedOf};
+ghost use Rattle.text.specs.Line.{same, dayOf, groupOf, endsOf, unitOf, endOf, fieldsOf, recordOf, uncommented, bareLength, bareOf, markLength, lineOf, listedFields, listedOf};
 pub use crate::fields::Field;
 use crate::fields::day_at;
 use crate::fields::field_at;
@@ -110,6 +110,23 @@ fn group_in(text: &[u8], word: Field) -> Line
     ))
 }
 
+// The nine values of a unit are a 03h where nothing stands after them; else two ends follow, and they are an 04h.
+fn ends_in(text: &[u8], made: Field, u: UnitRecord) -> Line
+    ensures { λ r. ⌜ r ≡ endsOf (now (text .entry)) made u ⌝ }
+{
+    let plain = over_at(text, 10, made);
+    if plain.good {
+        return Line::Unit(u);
+    }
+    let lower = i32_at(text, 10, made);
+    let upper = i32_at(text, 11, lower.field);
+    let last = over_at(text, 12, upper.field);
+    if !last.good {
+        return Line::Not(UnitRecord::KIND, last);
+    }
+    Line::Unit(u.with_ends(UnitRecord::INTERVAL_KIND, lower.value, upper.value))
+}
+
 fn unit_in(text: &[u8], word: Field) -> Line
     ensures { λ r. ⌜ r ≡ unitOf (now (text .entry)) word ⌝ }
 {
@@ -122,11 +139,7 @@ fn unit_in(text: &[u8], word: Field) -> Line
     let step_down = i32_at(text, 7, pc.field);
     let step_up = i32_at(text, 8, step_down.field);
     let made = minute_at(text, 9, step_up.field);
-    let last = over_at(text, 10, made.field);
-    if !last.good {
-        return Line::Not(UnitRecord::KIND, last);
-    }
-    Line::Unit(UnitRecord::new(
+    let u = UnitRecord::new(
         number.value,
         class.value,
         coincide.value,
@@ -136,7 +149,8 @@ fn unit_in(text: &[u8], word: Field) -> Line
         step_down.value,
         step_up.value,
         made.value,
-    ))
+    );
+    ends_in(text, made.field, u)
 }
 
 fn end_in(text: &[u8], word: Field) -> Line

@@ -39,7 +39,7 @@ module _ (s rest : List ℕ) (d : DayRecord) (e : s ≡ dayBytes d ++ rest) wher
 
   day-head : dayHeadOf s ≡ is dayLength
   unfolding dayBytes behind bytes16 bytes32
-  day-head = head-read s 0 dayKind dayLength (dayBytes d) rest e refl refl (omega arith)
+  day-head = head-read s 0 dayKind (dayBytes d) rest e refl (omega arith) dayLength refl
 
   pub day-reads : permitted (d .quarters) ≡ true → dayOf s ≡ is d
   unfolding dayOf dayFieldsOf next need
@@ -63,7 +63,7 @@ module _ (s rest : List ℕ) (g : GroupRecord) (e : s ≡ groupBytes g ++ rest) 
 
   group-head : groupHeadOf s ≡ is groupLength
   unfolding groupBytes behind bytes16 bytes32
-  group-head = head-read s 0 groupKind groupLength (groupBytes g) rest e refl refl (omega arith)
+  group-head = head-read s 0 groupKind (groupBytes g) rest e refl (omega arith) groupLength refl
 
   pub group-reads : (day : DayRecord) (last : Last) → unitCount (g .count) ≡ true → Joins g day last → groupOf s day last ≡ is g
   unfolding groupOf groupFieldsOf next need
@@ -85,7 +85,7 @@ module _ (s rest : List ℕ) (x : EndRecord) (e : s ≡ endBytes x ++ rest) wher
 
   end-head : endHeadOf s ≡ is endLength
   unfolding endBytes behind bytes32 bytes16
-  end-head = head-read s 0 endKind endLength (endBytes x) rest e refl refl (omega arith)
+  end-head = head-read s 0 endKind (endBytes x) rest e refl (omega arith) endLength refl
 
   pub end-reads : endOf s (x .groups) ≡ is x
   unfolding endOf endFieldsOf next need

@@ -156,13 +156,18 @@ module _ (s : List ℕ) (small : Bytes s) (at : ℕ) where
       ap (λ (k : ℕ). take k (drop at s)) n ∙ taken s small at (len - 1) (omega (arith, h .long)) ∙ rw (h .first) in
       table-again (kind ∷ []) es 1 len t st (h .long) ∙ sym whole
 
--- the head of what was laid
-pub head-read : (s : List ℕ) (at kind len : ℕ) (bytes rest : List ℕ) → drop at s ≡ bytes ++ rest → byteAt bytes 0 ≡ kind → length bytes ≡ len → 1 ≤ len
-    → headOf s at kind len ≡ is (at + len)
-unfolding headOf need
-head-read s at kind len bytes rest e k n h =
-    let l : length s - at ≡ len + length rest = sym (length-drop at s) ∙ ap length e ∙ length-append bytes rest ∙ omega arith in
-    let z : at + 0 ≡ at = omega arith in
-    let first : byteAt s at ≡ kind =
-    ap (byteAt s) (sym z) ∙ sym (getD-drop at s 0 0) ∙ ap (λ (l : List ℕ). byteAt l 0) e ∙ List·getD-append bytes rest 0 0 (omega arith) ∙ k in
-    simp (lt-ltb at (length s) (omega arith), eq-eqb (byteAt s at) kind first, le-leb (at + len) (length s) (omega arith))
+-- the first byte of what was laid, and its head
+pub first-laid : (kind : ℕ) (es : List Entry) → byteAt (behind (kind ∷ []) es) 0 ≡ kind
+first-laid kind es = ap (λ (l : List ℕ). byteAt l 0) (behind-split (kind ∷ []) es)
+
+module _ (s : List ℕ) (at kind : ℕ) (bytes rest : List ℕ) (e : drop at s ≡ bytes ++ rest) (k : byteAt bytes 0 ≡ kind) (h : 1 ≤ length bytes) where
+  pub first-read : byteAt s at ≡ kind
+  first-read =
+      let z : at + 0 ≡ at = omega arith in
+      ap (byteAt s) (sym z) ∙ sym (getD-drop at s 0 0) ∙ ap (λ (l : List ℕ). byteAt l 0) e ∙ List·getD-append bytes rest 0 0 (omega arith) ∙ k
+
+  pub head-read : (len : ℕ) → length bytes ≡ len → headOf s at kind len ≡ is (at + len)
+  unfolding headOf need
+  head-read len n =
+      let l : length s - at ≡ len + length rest = sym (length-drop at s) ∙ ap length e ∙ length-append bytes rest ∙ omega arith in
+      simp (lt-ltb at (length s) (omega arith), eq-eqb (byteAt s at) kind first-read, le-leb (at + len) (length s) (omega arith))

@@ -1,4 +1,4 @@
--- "Ways in": a block's units as nine columns, one for each field of the unit record.
+-- "Ways in": a block's units as twelve columns, one for each field of the unit record, kind and ends last.
 use Prim.Native.Nat.{ℕ, zero, suc, _+_}
 use mathlib.Core.Bool.{Bool, true, _&&_}
 use mathlib.Core.List.{List, [], _∷_}
@@ -8,7 +8,7 @@ use lib.ListN.{length, getD}
 use Rattle.numbers.specs.Column.{column}
 use Rattle.terms.specs.declared.refusal.Checked.{Checked}
 use Rattle.records.specs.declared.unit.UnitRecord.{UnitRecord}
-use Rattle.records.specs.Layouts.{unitWith}
+use Rattle.records.specs.Layouts.{unitWith, withEnds}
 use Rattle.records.specs.Reading.{unitIn, valueFaults}
 
 pub record Columns : Type 0 where
@@ -21,9 +21,12 @@ pub record Columns : Type 0 where
   pub step-down : List ℤ
   pub step-up : List ℤ
   pub made : List ℕ
+  pub kind : List ℕ
+  pub lower : List ℤ
+  pub upper : List ℤ
 
-abbrev pub columns : List ℕ → List ℕ → List ℕ → List ℕ → List ℤ → List ℤ → List ℤ → List ℤ → List ℕ → Columns
-columns number class coincide nominated n pc step-down step-up made =
+abbrev pub columns : List ℕ → List ℕ → List ℕ → List ℕ → List ℤ → List ℤ → List ℤ → List ℤ → List ℕ → List ℕ → List ℤ → List ℤ → Columns
+columns number class coincide nominated n pc step-down step-up made kind lower upper =
     record {
       number = number;
       class = class;
@@ -34,12 +37,16 @@ columns number class coincide nominated n pc step-down step-up made =
       step-down = step-down;
       step-up = step-up;
       made = made;
+      kind = kind;
+      lower = lower;
+      upper = upper;
     }
 
 -- the unit of an index
 unfoldable pub rowOf : Columns → ℕ → UnitRecord
 rowOf c i =
-    unitWith
+    withEnds
+    (unitWith
     (getD (c .number) i 0)
     (getD (c .class) i 0)
     (getD (c .coincide) i 0)
@@ -48,7 +55,10 @@ rowOf c i =
     (getD (c .pc) i (pos 0))
     (getD (c .step-down) i (pos 0))
     (getD (c .step-up) i (pos 0))
-    (getD (c .made) i 0)
+    (getD (c .made) i 0))
+    (getD (c .kind) i 0)
+    (getD (c .lower) i (pos 0))
+    (getD (c .upper) i (pos 0))
 
 -- the values of so many units of a block, by the layout
 abbrev pub columnsIn : List ℕ → ℕ → Columns
@@ -63,6 +73,9 @@ columnsIn s units =
     (column units λ i. unitIn s i .«step_down»)
     (column units λ i. unitIn s i .«step_up»)
     (column units λ i. unitIn s i .made)
+    (column units λ i. unitIn s i .kind)
+    (column units λ i. unitIn s i .lower)
+    (column units λ i. unitIn s i .upper)
 
 -- how many units there are
 abbrev pub count : Columns → ℕ
@@ -84,6 +97,9 @@ others c =
     ∷ length (c .step-down)
     ∷ length (c .step-up)
     ∷ length (c .made)
+    ∷ length (c .kind)
+    ∷ length (c .lower)
+    ∷ length (c .upper)
     ∷ []
 
 -- columns of equal length

@@ -51,9 +51,12 @@ fn check_block(
     step_down: &[i32],
     step_up: &[i32],
     made: &[u32],
+    kind: &[u8],
+    lower: &[i32],
+    upper: &[i32],
     room: usize,
 ) -> Answer
-    ensures { λ r. ⌜ answer r ≡ writeBlockOf quarter (columns (now (number .entry)) (now (class .entry)) (now (coincide .entry)) (now (nominated .entry)) (now (n .entry)) (now (pc .entry)) (now («step_down» .entry)) (now («step_up» .entry)) (now (made .entry))) room ⌝ }
+    ensures { λ r. ⌜ answer r ≡ writeBlockOf quarter (columns (now (number .entry)) (now (class .entry)) (now (coincide .entry)) (now (nominated .entry)) (now (n .entry)) (now (pc .entry)) (now («step_down» .entry)) (now («step_up» .entry)) (now (made .entry)) (now (kind .entry)) (now (lower .entry)) (now (upper .entry))) room ⌝ }
 {
     let others = [
         class.len(),
@@ -64,6 +67,9 @@ fn check_block(
         step_down.len(),
         step_up.len(),
         made.len(),
+        kind.len(),
+        lower.len(),
+        upper.len(),
     ];
     if !are_same(number.len(), &others) {
         return refused(Why::Columns);
@@ -82,6 +88,9 @@ fn check_block(
         step_down,
         step_up,
         made,
+        kind,
+        lower,
+        upper,
     );
     let Answer::Is(bytes) = u else {
         return u;
@@ -107,9 +116,12 @@ pub fn write_block(
     step_down: &[i32],
     step_up: &[i32],
     margins_made: &[u32],
+    kind: &[u8],
+    lower: &[i32],
+    upper: &[i32],
     room: &mut [u8],
 ) -> Answer
-    ensures { λ r. ⌜ BlockWritten brp zone quarter made (columns (now (number .entry)) (now (class .entry)) (now (coincide .entry)) (now (nominated .entry)) (now (n .entry)) (now (pc .entry)) (now («step_down» .entry)) (now («step_up» .entry)) (now («margins_made» .entry))) (now (room .entry)) r (now (room .exit)) ⌝ }
+    ensures { λ r. ⌜ BlockWritten brp zone quarter made (columns (now (number .entry)) (now (class .entry)) (now (coincide .entry)) (now (nominated .entry)) (now (n .entry)) (now (pc .entry)) (now («step_down» .entry)) (now («step_up» .entry)) (now («margins_made» .entry)) (now (kind .entry)) (now (lower .entry)) (now (upper .entry))) (now (room .entry)) r (now (room .exit)) ⌝ }
 {
     let checked = check_block(
         quarter,
@@ -122,6 +134,9 @@ pub fn write_block(
         step_down,
         step_up,
         margins_made,
+        kind,
+        lower,
+        upper,
         room.len(),
     );
     let Answer::Is(_) = checked else {
@@ -144,6 +159,9 @@ pub fn write_block(
         step_down,
         step_up,
         margins_made,
+        kind,
+        lower,
+        upper,
         units,
     );
     checked

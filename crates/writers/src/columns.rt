@@ -1,4 +1,4 @@
-// A block's units as nine columns, one for each field of the unit record: below here each unit is one value.
+// A block's units as twelve columns, one for each field of the unit record, kind and ends last: below here each unit is one value.
 ghost use mathlib.Core.Path.{_≡_};
 ghost use Prim.Native.Nat.{_+_, _≤_};
 ghost use lib.ListN.{length};
@@ -29,10 +29,13 @@ fn row(
     step_down: &[i32],
     step_up: &[i32],
     made: &[u32],
+    kind: &[u8],
+    lower: &[i32],
+    upper: &[i32],
     i: usize,
 ) -> UnitRecord
-    requires { ⌜ Long (i + 1) (columns (now number) (now class) (now coincide) (now nominated) (now n) (now pc) (now «step_down») (now «step_up») (now made)) ⌝ }
-    ensures { λ r. ⌜ r ≡ rowOf (columns (now (number .entry)) (now (class .entry)) (now (coincide .entry)) (now (nominated .entry)) (now (n .entry)) (now (pc .entry)) (now («step_down» .entry)) (now («step_up» .entry)) (now (made .entry))) i ⌝ }
+    requires { ⌜ Long (i + 1) (columns (now number) (now class) (now coincide) (now nominated) (now n) (now pc) (now «step_down») (now «step_up») (now made) (now kind) (now lower) (now upper)) ⌝ }
+    ensures { λ r. ⌜ r ≡ rowOf (columns (now (number .entry)) (now (class .entry)) (now (coincide .entry)) (now (nominated .entry)) (now (n .entry)) (now (pc .entry)) (now («step_down» .entry)) (now («step_up» .entry)) (now (made .entry)) (now (kind .entry)) (now (lower .entry)) (now (upper .entry))) i ⌝ }
 {
     UnitRecord {
         number: number[i],
@@ -44,6 +47,9 @@ fn row(
         step_down: step_down[i],
         step_up: step_up[i],
         made: made[i],
+        kind: kind[i],
+        lower: lower[i],
+        upper: upper[i],
     }
 }
 
@@ -59,10 +65,13 @@ pub fn lay_units(
     step_down: &[i32],
     step_up: &[i32],
     made: &[u32],
+    kind: &[u8],
+    lower: &[i32],
+    upper: &[i32],
     units: usize,
 )
-    requires { ⌜ Long units (columns (now number) (now class) (now coincide) (now nominated) (now n) (now pc) (now «step_down») (now «step_up») (now made)) × (unitsEnd (columns (now number) (now class) (now coincide) (now nominated) (now n) (now pc) (now «step_down») (now «step_up») (now made)) units ≤ length (now room)) ⌝ }
-    ensures { λ _. ⌜ now (room .exit) ≡ laidAt (now (room .entry)) groupLength (unitsBytes (columns (now (number .entry)) (now (class .entry)) (now (coincide .entry)) (now (nominated .entry)) (now (n .entry)) (now (pc .entry)) (now («step_down» .entry)) (now («step_up» .entry)) (now (made .entry))) units) ⌝ }
+    requires { ⌜ Long units (columns (now number) (now class) (now coincide) (now nominated) (now n) (now pc) (now «step_down») (now «step_up») (now made) (now kind) (now lower) (now upper)) × (unitsEnd (columns (now number) (now class) (now coincide) (now nominated) (now n) (now pc) (now «step_down») (now «step_up») (now made) (now kind) (now lower) (now upper)) units ≤ length (now room)) ⌝ }
+    ensures { λ _. ⌜ now (room .exit) ≡ laidAt (now (room .entry)) groupLength (unitsBytes (columns (now (number .entry)) (now (class .entry)) (now (coincide .entry)) (now (nominated .entry)) (now (n .entry)) (now (pc .entry)) (now («step_down» .entry)) (now («step_up» .entry)) (now (made .entry)) (now (kind .entry)) (now (lower .entry)) (now (upper .entry))) units) ⌝ }
 {
     let mut here = GroupRecord::LEN;
     let mut i = 0;
@@ -77,6 +86,9 @@ pub fn lay_units(
             step_down,
             step_up,
             made,
+            kind,
+            lower,
+            upper,
             i,
         );
         lay_unit(room, here, u);
@@ -96,9 +108,12 @@ pub fn check_units(
     step_down: &[i32],
     step_up: &[i32],
     made: &[u32],
+    kind: &[u8],
+    lower: &[i32],
+    upper: &[i32],
 ) -> Answer
-    requires { ⌜ Long (count (columns (now number) (now class) (now coincide) (now nominated) (now n) (now pc) (now «step_down») (now «step_up») (now made))) (columns (now number) (now class) (now coincide) (now nominated) (now n) (now pc) (now «step_down») (now «step_up») (now made)) ⌝ }
-    ensures { λ r. ⌜ answer r ≡ unitsChecked (columns (now (number .entry)) (now (class .entry)) (now (coincide .entry)) (now (nominated .entry)) (now (n .entry)) (now (pc .entry)) (now («step_down» .entry)) (now («step_up» .entry)) (now (made .entry))) ⌝ }
+    requires { ⌜ Long (count (columns (now number) (now class) (now coincide) (now nominated) (now n) (now pc) (now «step_down») (now «step_up») (now made) (now kind) (now lower) (now upper))) (columns (now number) (now class) (now coincide) (now nominated) (now n) (now pc) (now «step_down») (now «step_up») (now made) (now kind) (now lower) (now upper)) ⌝ }
+    ensures { λ r. ⌜ answer r ≡ unitsChecked (columns (now (number .entry)) (now (class .entry)) (now (coincide .entry)) (now (nominated .entry)) (now (n .entry)) (now (pc .entry)) (now («step_down» .entry)) (now («step_up» .entry)) (now (made .entry)) (now (kind .entry)) (now (lower .entry)) (now (upper .entry))) ⌝ }
 {
     let mut floor: u32 = 0;
     let mut end = GroupRecord::LEN;
@@ -114,6 +129,9 @@ pub fn check_units(
             step_down,
             step_up,
             made,
+            kind,
+            lower,
+            upper,
             i,
         );
         let f = faults(u, floor);

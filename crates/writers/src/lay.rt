@@ -4,8 +4,8 @@ ghost use mathlib.Core.List.{[], _∷_};
 ghost use Prim.Native.Nat.{_+_, _≤_};
 ghost use lib.ListN.{length};
 ghost use Rattle.numbers.specs.Bytes.{bytes16, laidAt};
-ghost use Rattle.records.specs.Layouts.{dayLength, dayBytes, groupLength, groupBytes, lengthOf, unitBytes, endLength, endBytes};
-ghost use Rattle.writers.specs.Inner.{headLength, threeLength, fourLength, quantities};
+ghost use Rattle.records.specs.Layouts.{dayLength, dayBytes, groupLength, groupBytes, unitLength, lengthOf, unitBytes, endLength, endBytes};
+ghost use Rattle.writers.specs.Inner.{headLength, threeLength, fourLength, quantities, bodyBytes};
 use numbers::bytes::lay_i32;
 use numbers::bytes::lay_u8;
 use numbers::bytes::lay_u16;
@@ -65,13 +65,14 @@ pub fn lay_group(room: &mut [u8], at: usize, g: GroupRecord)
     lay_u32(room, at + GroupRecord::MADE, g.made);
 }
 
-pub fn lay_unit(room: &mut [u8], at: usize, u: UnitRecord)
-    requires { ⌜ at + lengthOf u ≤ length (now room) ⌝ }
-    ensures { λ _. ⌜ now (room .exit) ≡ laidAt (now (room .entry)) at (unitBytes u) ⌝ }
+// The body of a unit record, which both kinds have.
+fn lay_body(room: &mut [u8], at: usize, u: UnitRecord)
+    requires { ⌜ at + unitLength ≤ length (now room) ⌝ }
+    ensures { λ _. ⌜ now (room .exit) ≡ laidAt (now (room .entry)) at (bodyBytes u) ⌝ }
 {
     let n = u.n;
     let pc = u.pc;
-    lay_head(room, at, UnitRecord::KIND, u.number);
+    lay_head(room, at, u.kind, u.number);
     lay_three(
         room,
         at + UnitRecord::CLASS,
@@ -81,6 +82,17 @@ pub fn lay_unit(room: &mut [u8], at: usize, u: UnitRecord)
     );
     lay_four(room, at + UnitRecord::N, n.0, pc.0, u.step_down, u.step_up);
     lay_u32(room, at + UnitRecord::MADE, u.made);
+}
+
+pub fn lay_unit(room: &mut [u8], at: usize, u: UnitRecord)
+    requires { ⌜ at + lengthOf u ≤ length (now room) ⌝ }
+    ensures { λ _. ⌜ now (room .exit) ≡ laidAt (now (room .entry)) at (unitBytes u) ⌝ }
+{
+    lay_body(room, at, u);
+    if u.kind == UnitRecord::INTERVAL_KIND {
+        lay_i32(room, at + UnitRecord::LOWER, u.lower);
+        lay_i32(room, at + UnitRecord::UPPER, u.upper);
+    }
 }
 
 pub fn lay_end(room: &mut [u8], at: usize, e: EndRecord)

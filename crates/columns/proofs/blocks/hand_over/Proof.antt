@@ -1,4 +1,5 @@
 -- The room is as it was where the body does not fit; the lengths are there before they are read.
+use native.Mathlib.Omega.{arith}
 use mathlib.Core.Bool.{false≢true}
 use mathlib.Core.Path.{sym}
 use borrow.Author.Needs.{needs}
@@ -41,6 +42,15 @@ ends-at-requires-2 c κs = search needs
 length-at-requires-3 : tie.Need-length-at-requires-3
 length-at-requires-3 c κs = search needs
 
+length-at-requires-4 : tie.Need-length-at-requires-4
+length-at-requires-4 c κs = search needs
+
+length-at-requires-5 : tie.Need-length-at-requires-5
+length-at-requires-5 c κs = search needs
+
+length-at-requires-6 : tie.Need-length-at-requires-6
+length-at-requires-6 c κs = search needs
+
 add-if3 : tie.Need-add-if3
 add-if3 c = search needs
 
@@ -56,6 +66,18 @@ mul-if3-2 c = search needs
 add-if3-3 : tie.Need-add-if3-3
 add-if3-3 c = search needs
 
+add-if3-4 : tie.Need-add-if3-4
+add-if3-4 c = search needs
+
+add-if3-5 : tie.Need-add-if3-5
+add-if3-5 c = search needs
+
+mul-if3-3 : tie.Need-mul-if3-3
+mul-if3-3 c = search needs
+
+add-if3-6 : tie.Need-add-if3-6
+add-if3-6 c = search needs
+
 returns-3 : tie.Need-returns-3
 returns-3 c = search needs
 
@@ -69,7 +91,11 @@ part-write-body-end : tie.Need-part-write-body-end
 part-write-body-end c = search needs
 
 write-body-requires : tie.Need-write-body-requires
-write-body-requires c κs = search needs
+write-body-requires c κs =
+    let e = c .before .before .before .before .before .before .before .before .before in
+    let b = c .before .before .before .before .before .before .before .before .before .before .before in
+    let units = c .before .before .before .before .before .before .before .before .before .before .before .before in
+    (omega arith, ((b .ends-at .ensures .1, e .ends-at2 .ensures .1), ((units .length-at .ensures, (b .ends-at .ensures .0, (omega (arith, e .ends-at2 .ensures .0, c .before .before .before .before .before .before .before .before .before .before .length-at2 .ensures), c .before .before .before .before .before .before .before .before .length-at3 .ensures))), ((c .before .before .before .before .before .before .before .length-at4 .ensures, (c .before .before .before .before .before .before .length-at5 .ensures, c .before .before .before .before .before .length-at6 .ensures)), omega (arith, c .before .before .if3 .left)))))
 
 same-length : tie.Need-same-length
 same-length c = search needs
@@ -93,11 +119,18 @@ hand-over-spec =
     length-at-requires-2
     ends-at-requires-2
     length-at-requires-3
+    length-at-requires-4
+    length-at-requires-5
+    length-at-requires-6
     add-if3
     mul-if3
     add-if3-2
     mul-if3-2
     add-if3-3
+    add-if3-4
+    add-if3-5
+    mul-if3-3
+    add-if3-6
     returns-3
     sub-write-body
     part-write-body-start

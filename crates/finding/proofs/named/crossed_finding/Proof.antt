@@ -1,24 +1,20 @@
--- `crossed_finding` meets its contract: M- is read of the same record.
-use mir.Facts.{toZ-ofZ}
-use mir.Val.{SFits}
-use mir.Syntax.{w32}
+-- `crossed_finding` meets its contract, by the place.
 use borrow.Author.Needs.{needs}
+use borrow.Author.Tests.{lt-ltb, le-ltb}
 use Rattle.finding.proofs.named.crossed_finding.Statement.{statement}
 use Rattle.finding.proofs.named.crossed_finding.Tie as tie
 
-add-signed : tie.Need-add-signed
-add-signed c = search needs
-
-signed-requires : tie.Need-signed-requires
-signed-requires c κs = search needs
-
-tell-requires : tie.Need-tell-requires
-tell-requires c κs = search needs
+least-finding-requires : tie.Need-least-finding-requires
+least-finding-requires c κs = search needs
 
 returns : tie.Need-returns
-returns c =
-    let f : SFits w32 (c .before .signed .result) = record { sfits = c .before .signed .ok } in
-    rw (c .before .signed .ensures) at (rw (toZ-ofZ f) at (c .tell .ensures))
+returns c = rw (lt-ltb _ _ (c .before .if1 .taken)) (c .least-finding .ensures)
+
+least-finding-requires-2 : tie.Need-least-finding-requires-2
+least-finding-requires-2 c κs = search needs
+
+returns-2 : tie.Need-returns-2
+returns-2 c = rw (le-ltb _ _ (c .before .if1 .left)) (c .least-finding2 .ensures)
 
 pub crossed-finding-spec : {M : Type 1} → statement M
-crossed-finding-spec = tie.close (tie.spec add-signed signed-requires tell-requires returns)
+crossed-finding-spec = tie.close (tie.spec least-finding-requires returns least-finding-requires-2 returns-2)

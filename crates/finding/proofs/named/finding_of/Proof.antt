@@ -58,6 +58,9 @@ range-finding-requires c κs = search needs
 enum-told-9 : tie.Need-enum-told-9
 enum-told-9 c = search needs
 
+sub-crossed-finding : tie.Need-sub-crossed-finding
+sub-crossed-finding c = search needs
+
 crossed-finding-requires : tie.Need-crossed-finding-requires
 crossed-finding-requires c κs = search needs
 
@@ -99,6 +102,12 @@ enum-told-17 c = search needs
 
 margins-finding-requires-2 : tie.Need-margins-finding-requires-2
 margins-finding-requires-2 c κs = search needs
+
+enum-told-18 : tie.Need-enum-told-18
+enum-told-18 c = search needs
+
+working-finding-requires : tie.Need-working-finding-requires
+working-finding-requires c κs = search needs
 
 returns : tie.Need-returns
 unfolding findingOf
@@ -168,6 +177,10 @@ returns-17 : tie.Need-returns-17
 unfolding findingOf
 returns-17 c = rw (c .before .enum-told17 .given .1) (c .margins-finding2 .ensures)
 
+returns-18 : tie.Need-returns-18
+unfolding findingOf
+returns-18 c = rw (c .before .enum-told18 .given .1) (c .working-finding .ensures)
+
 pub finding-of-spec : {M : Type 1} → statement M
 finding-of-spec =
     tie.close
@@ -190,6 +203,7 @@ finding-of-spec =
     sub-range-finding
     range-finding-requires
     enum-told-9
+    sub-crossed-finding
     crossed-finding-requires
     enum-told-10
     positions-finding-requires
@@ -204,6 +218,8 @@ finding-of-spec =
     positions-finding-requires-2
     enum-told-17
     margins-finding-requires-2
+    enum-told-18
+    working-finding-requires
     returns
     returns-2
     returns-3
@@ -220,4 +236,5 @@ finding-of-spec =
     returns-14
     returns-15
     returns-16
-    returns-17)
+    returns-17
+    returns-18)

@@ -38,7 +38,15 @@ returns-8 c = simp (le-ltb _ _ (c .before .before .before .before .before .befor
 
 returns-9 : tie.Need-returns-9
 unfolding unitFieldAt
-returns-9 c = simp (le-ltb _ _ (c .before .before .before .before .before .before .before .if1 .left), le-ltb _ _ (c .before .before .before .before .before .before .if2 .left), le-ltb _ _ (c .before .before .before .before .before .if3 .left), le-ltb _ _ (c .before .before .before .before .if4 .left), le-ltb _ _ (c .before .before .before .if5 .left), le-ltb _ _ (c .before .before .if6 .left), le-ltb _ _ (c .before .if7 .left), le-ltb _ _ (c .if8 .left))
+returns-9 c = simp (le-ltb _ _ (c .before .before .before .before .before .before .before .before .if1 .left), le-ltb _ _ (c .before .before .before .before .before .before .before .if2 .left), le-ltb _ _ (c .before .before .before .before .before .before .if3 .left), le-ltb _ _ (c .before .before .before .before .before .if4 .left), le-ltb _ _ (c .before .before .before .before .if5 .left), le-ltb _ _ (c .before .before .before .if6 .left), le-ltb _ _ (c .before .before .if7 .left), le-ltb _ _ (c .before .if8 .left), lt-ltb _ _ (c .if9 .taken))
+
+returns-10 : tie.Need-returns-10
+unfolding unitFieldAt
+returns-10 c = simp (le-ltb _ _ (c .before .before .before .before .before .before .before .before .before .if1 .left), le-ltb _ _ (c .before .before .before .before .before .before .before .before .if2 .left), le-ltb _ _ (c .before .before .before .before .before .before .before .if3 .left), le-ltb _ _ (c .before .before .before .before .before .before .if4 .left), le-ltb _ _ (c .before .before .before .before .before .if5 .left), le-ltb _ _ (c .before .before .before .before .if6 .left), le-ltb _ _ (c .before .before .before .if7 .left), le-ltb _ _ (c .before .before .if8 .left), le-ltb _ _ (c .before .if9 .left), lt-ltb _ _ (c .if10 .taken))
+
+returns-11 : tie.Need-returns-11
+unfolding unitFieldAt
+returns-11 c = simp (le-ltb _ _ (c .before .before .before .before .before .before .before .before .before .if1 .left), le-ltb _ _ (c .before .before .before .before .before .before .before .before .if2 .left), le-ltb _ _ (c .before .before .before .before .before .before .before .if3 .left), le-ltb _ _ (c .before .before .before .before .before .before .if4 .left), le-ltb _ _ (c .before .before .before .before .before .if5 .left), le-ltb _ _ (c .before .before .before .before .if6 .left), le-ltb _ _ (c .before .before .before .if7 .left), le-ltb _ _ (c .before .before .if8 .left), le-ltb _ _ (c .before .if9 .left), le-ltb _ _ (c .if10 .left))
 
 pub unit-field-at-spec : {M : Type 1} → statement M
 unit-field-at-spec =
@@ -52,4 +60,6 @@ unit-field-at-spec =
     returns-6
     returns-7
     returns-8
-    returns-9)
+    returns-9
+    returns-10
+    returns-11)

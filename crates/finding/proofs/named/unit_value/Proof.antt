@@ -101,6 +101,24 @@ add-word c = search needs
 word-requires : tie.Need-word-requires
 word-requires c κs = search needs
 
+enum-told-10 : tie.Need-enum-told-10
+enum-told-10 c = search needs
+
+add-signed-5 : tie.Need-add-signed-5
+add-signed-5 c = search needs
+
+signed-requires-5 : tie.Need-signed-requires-5
+signed-requires-5 c κs = search needs
+
+enum-told-11 : tie.Need-enum-told-11
+enum-told-11 c = search needs
+
+add-signed-6 : tie.Need-add-signed-6
+add-signed-6 c = search needs
+
+signed-requires-6 : tie.Need-signed-requires-6
+signed-requires-6 c κs = search needs
+
 returns : tie.Need-returns
 returns c = rw (c .before .enum-told .given .1) (ap Plain (c .half .ensures))
 
@@ -135,6 +153,16 @@ returns-8 c =
 
 returns-9 : tie.Need-returns-9
 returns-9 c = rw (c .before .enum-told9 .given .1) (ap Plain (c .word .ensures))
+
+returns-10 : tie.Need-returns-10
+returns-10 c =
+    let f : SFits w32 (c .signed5 .result) = record { sfits = c .signed5 .ok } in
+    rw (c .before .enum-told10 .given .1) (ap Signed (toZ-ofZ f ∙ c .signed5 .ensures))
+
+returns-11 : tie.Need-returns-11
+returns-11 c =
+    let f : SFits w32 (c .signed6 .result) = record { sfits = c .signed6 .ok } in
+    rw (c .before .enum-told11 .given .1) (ap Signed (toZ-ofZ f ∙ c .signed6 .ensures))
 
 pub unit-value-spec : {M : Type 1} → statement M
 unit-value-spec =
@@ -171,6 +199,12 @@ unit-value-spec =
     enum-told-9
     add-word
     word-requires
+    enum-told-10
+    add-signed-5
+    signed-requires-5
+    enum-told-11
+    add-signed-6
+    signed-requires-6
     returns
     returns-2
     returns-3
@@ -179,4 +213,6 @@ unit-value-spec =
     returns-6
     returns-7
     returns-8
-    returns-9)
+    returns-9
+    returns-10
+    returns-11)

@@ -11,29 +11,29 @@ use Rattle.making.proofs.making.fault_spot.Tie as tie
 enum-told : tie.Need-enum-told
 enum-told c = search needs
 
-cast-t4 : tie.Need-cast-t4
-cast-t4 c = search needs
-
 enum-told-2 : tie.Need-enum-told-2
 enum-told-2 c = search needs
 
-cast-t5 : tie.Need-cast-t5
-cast-t5 c = search needs
+cast-t4 : tie.Need-cast-t4
+cast-t4 c = search needs
 
 enum-told-3 : tie.Need-enum-told-3
 enum-told-3 c = search needs
 
-cast-t6 : tie.Need-cast-t6
-cast-t6 c = search needs
+cast-t5 : tie.Need-cast-t5
+cast-t5 c = search needs
 
 enum-told-4 : tie.Need-enum-told-4
 enum-told-4 c = search needs
 
-cast-t7 : tie.Need-cast-t7
-cast-t7 c = search needs
+cast-t6 : tie.Need-cast-t6
+cast-t6 c = search needs
 
 enum-told-5 : tie.Need-enum-told-5
 enum-told-5 c = search needs
+
+cast-t7 : tie.Need-cast-t7
+cast-t7 c = search needs
 
 enum-told-6 : tie.Need-enum-told-6
 enum-told-6 c = search needs
@@ -56,28 +56,46 @@ enum-told-11 c = search needs
 enum-told-12 : tie.Need-enum-told-12
 enum-told-12 c = search needs
 
+enum-told-13 : tie.Need-enum-told-13
+enum-told-13 c = search needs
+
+enum-told-14 : tie.Need-enum-told-14
+enum-told-14 c = search needs
+
+enum-told-15 : tie.Need-enum-told-15
+enum-told-15 c = search needs
+
+enum-told-16 : tie.Need-enum-told-16
+enum-told-16 c = search needs
+
+enum-told-17 : tie.Need-enum-told-17
+enum-told-17 c = search needs
+
+enum-told-18 : tie.Need-enum-told-18
+enum-told-18 c = search needs
+
 returns : tie.Need-returns
-returns c =
-    let h : c .before .before .before .args .u .number < 2 ^ hbits w32 = omega arith in
-    rw (c .before .enum-told .given .1) (simp (toZ-pos w32))
+returns c = rw (c .enum-told .given .1)
 
 returns-2 : tie.Need-returns-2
 returns-2 c =
-    let h : c .before .before .before .args .u .class < 2 ^ hbits w32 = omega arith in
+    let h : c .before .before .before .args .u .number < 2 ^ hbits w32 = omega arith in
     rw (c .before .enum-told2 .given .1) (simp (toZ-pos w32))
 
 returns-3 : tie.Need-returns-3
 returns-3 c =
-    let h : c .before .before .before .args .u .coincide < 2 ^ hbits w32 = omega arith in
+    let h : c .before .before .before .args .u .class < 2 ^ hbits w32 = omega arith in
     rw (c .before .enum-told3 .given .1) (simp (toZ-pos w32))
 
 returns-4 : tie.Need-returns-4
 returns-4 c =
-    let h : c .before .before .before .args .u .nominated < 2 ^ hbits w32 = omega arith in
+    let h : c .before .before .before .args .u .coincide < 2 ^ hbits w32 = omega arith in
     rw (c .before .enum-told4 .given .1) (simp (toZ-pos w32))
 
 returns-5 : tie.Need-returns-5
-returns-5 c = rw (c .before .enum-told5 .given .1) (search needs)
+returns-5 c =
+    let h : c .before .before .before .args .u .nominated < 2 ^ hbits w32 = omega arith in
+    rw (c .before .enum-told5 .given .1) (simp (toZ-pos w32))
 
 returns-6 : tie.Need-returns-6
 returns-6 c = rw (c .before .enum-told6 .given .1) (search needs)
@@ -95,24 +113,42 @@ returns-10 : tie.Need-returns-10
 returns-10 c = rw (c .before .enum-told10 .given .1) (search needs)
 
 returns-11 : tie.Need-returns-11
-returns-11 c = rw (c .enum-told11 .given .1)
+returns-11 c = rw (c .before .enum-told11 .given .1) (search needs)
 
 returns-12 : tie.Need-returns-12
-returns-12 c = rw (c .enum-told12 .given .1)
+returns-12 c = rw (c .before .enum-told12 .given .1) (search needs)
+
+returns-13 : tie.Need-returns-13
+returns-13 c = rw (c .before .enum-told13 .given .1) (search needs)
+
+returns-14 : tie.Need-returns-14
+returns-14 c = rw (c .before .enum-told14 .given .1) (search needs)
+
+returns-15 : tie.Need-returns-15
+returns-15 c = rw (c .enum-told15 .given .1)
+
+returns-16 : tie.Need-returns-16
+returns-16 c = rw (c .before .enum-told16 .given .1) (search needs)
+
+returns-17 : tie.Need-returns-17
+returns-17 c = rw (c .enum-told17 .given .1)
+
+returns-18 : tie.Need-returns-18
+returns-18 c = rw (c .enum-told18 .given .1)
 
 pub fault-spot-spec : {M : Type 1} → statement M
 fault-spot-spec =
     tie.close
     (tie.spec
     enum-told
-    cast-t4
     enum-told-2
-    cast-t5
+    cast-t4
     enum-told-3
-    cast-t6
+    cast-t5
     enum-told-4
-    cast-t7
+    cast-t6
     enum-told-5
+    cast-t7
     enum-told-6
     enum-told-7
     enum-told-8
@@ -120,6 +156,12 @@ fault-spot-spec =
     enum-told-10
     enum-told-11
     enum-told-12
+    enum-told-13
+    enum-told-14
+    enum-told-15
+    enum-told-16
+    enum-told-17
+    enum-told-18
     returns
     returns-2
     returns-3
@@ -131,4 +173,10 @@ fault-spot-spec =
     returns-9
     returns-10
     returns-11
-    returns-12)
+    returns-12
+    returns-13
+    returns-14
+    returns-15
+    returns-16
+    returns-17
+    returns-18)

@@ -11,7 +11,7 @@ enum-told-2 : tie.Need-enum-told-2
 enum-told-2 c = search needs
 
 returns : tie.Need-returns
-returns c = search needs
+returns c = rw (c .enum-told2 .given .1)
 
 faults-requires : tie.Need-faults-requires
 faults-requires c κs = search needs

@@ -1,7 +1,4 @@
 -- `lay_held` meets its contract, row by row.
-use mathlib.Core.Path.{_≡_}
-use mir.Syntax.{w32}
-use mir.Val.{toZ, ofZ}
 use native.Mathlib.Omega.{arith}
 use Rattle.naming.specs.Words.{heldWords, longestHeld}
 use Rattle.naming.proofs.Laying.{up, and}
@@ -90,17 +87,23 @@ lay-word-requires-6 c κs = search needs
 enum-known-held-3 : tie.Need-enum-known-held-3
 enum-known-held-3 c = search needs
 
-slice-aggregate-lay-word-7 : tie.Need-slice-aggregate-lay-word-7
-slice-aggregate-lay-word-7 c = search needs
+slice-aggregate-lay-against : tie.Need-slice-aggregate-lay-against
+slice-aggregate-lay-against c = search needs
 
-lay-word-requires-7 : tie.Need-lay-word-requires-7
-lay-word-requires-7 c κs = search needs
-
-lay-signed-requires : tie.Need-lay-signed-requires
-lay-signed-requires c κs = search needs
+lay-against-requires : tie.Need-lay-against-requires
+lay-against-requires c κs = search needs
 
 enum-known-held-4 : tie.Need-enum-known-held-4
 enum-known-held-4 c = search needs
+
+slice-aggregate-lay-against-2 : tie.Need-slice-aggregate-lay-against-2
+slice-aggregate-lay-against-2 c = search needs
+
+lay-against-requires-2 : tie.Need-lay-against-requires-2
+lay-against-requires-2 c κs = search needs
+
+enum-known-held-5 : tie.Need-enum-known-held-5
+enum-known-held-5 c = search needs
 
 lay-age-requires : tie.Need-lay-age-requires
 lay-age-requires c κs = search needs
@@ -111,20 +114,20 @@ slice-aggregate-lay-numbered-3 c = search needs
 lay-numbered-requires-3 : tie.Need-lay-numbered-requires-3
 lay-numbered-requires-3 c κs = search needs
 
-enum-known-held-5 : tie.Need-enum-known-held-5
-enum-known-held-5 c = search needs
+enum-known-held-6 : tie.Need-enum-known-held-6
+enum-known-held-6 c = search needs
 
 lay-age-requires-2 : tie.Need-lay-age-requires-2
 lay-age-requires-2 c κs = search needs
 
-slice-aggregate-lay-word-8 : tie.Need-slice-aggregate-lay-word-8
-slice-aggregate-lay-word-8 c = search needs
+slice-aggregate-lay-word-7 : tie.Need-slice-aggregate-lay-word-7
+slice-aggregate-lay-word-7 c = search needs
 
-lay-word-requires-8 : tie.Need-lay-word-requires-8
-lay-word-requires-8 c κs = search needs
+lay-word-requires-7 : tie.Need-lay-word-requires-7
+lay-word-requires-7 c κs = search needs
 
-enum-known-held-6 : tie.Need-enum-known-held-6
-enum-known-held-6 c = search needs
+enum-known-held-7 : tie.Need-enum-known-held-7
+enum-known-held-7 c = search needs
 
 slice-aggregate-lay-numbered-4 : tie.Need-slice-aggregate-lay-numbered-4
 slice-aggregate-lay-numbered-4 c = search needs
@@ -219,11 +222,8 @@ returns-9 : tie.Need-returns-9
 unfolding heldWords
 returns-9 c =
     let last = c .before .before in
-    let first = last .before .before .before .before in
-    let arm = first .before .before .before .before in
-    let pre = arm .before .before .before .pre in
-    let back : toZ w32 (ofZ w32 (arm .held3 .given .0 .0)) ≡ arm .held3 .given .0 .0 = search needs in
-    rw (arm .held3 .given .1) (up (and (first .lay-word7 .ensures) (rw back at (last .lay-signed .ensures)) (omega (arith, pre))) longestHeld (omega arith))
+    let arm = last .before .before .before .before in
+    rw (arm .held3 .given .1) (up (last .lay-against .ensures) longestHeld (omega arith))
 
 same-length-10 : tie.Need-same-length-10
 same-length-10 c = search needs
@@ -232,10 +232,8 @@ returns-10 : tie.Need-returns-10
 unfolding heldWords
 returns-10 c =
     let last = c .before .before in
-    let first = last .before .before .before .before .before in
-    let arm = first .before .before .before in
-    let pre = arm .before .before .before .pre in
-    rw (arm .held4 .given .1) (up (and (first .lay-age .ensures) (last .lay-numbered3 .ensures) (omega (arith, pre))) longestHeld (omega arith))
+    let arm = last .before .before .before .before in
+    rw (arm .held4 .given .1) (up (last .lay-against2 .ensures) longestHeld (omega arith))
 
 same-length-11 : tie.Need-same-length-11
 same-length-11 c = search needs
@@ -247,7 +245,7 @@ returns-11 c =
     let first = last .before .before .before .before .before in
     let arm = first .before .before .before in
     let pre = arm .before .before .before .pre in
-    rw (arm .held5 .given .1) (up (and (first .lay-age2 .ensures) (last .lay-word8 .ensures) (omega (arith, pre))) longestHeld (omega arith))
+    rw (arm .held5 .given .1) (up (and (first .lay-age .ensures) (last .lay-numbered3 .ensures) (omega (arith, pre))) longestHeld (omega arith))
 
 same-length-12 : tie.Need-same-length-12
 same-length-12 c = search needs
@@ -256,8 +254,20 @@ returns-12 : tie.Need-returns-12
 unfolding heldWords
 returns-12 c =
     let last = c .before .before in
+    let first = last .before .before .before .before .before in
+    let arm = first .before .before .before in
+    let pre = arm .before .before .before .pre in
+    rw (arm .held6 .given .1) (up (and (first .lay-age2 .ensures) (last .lay-word7 .ensures) (omega (arith, pre))) longestHeld (omega arith))
+
+same-length-13 : tie.Need-same-length-13
+same-length-13 c = search needs
+
+returns-13 : tie.Need-returns-13
+unfolding heldWords
+returns-13 c =
+    let last = c .before .before in
     let arm = last .before .before .before .before in
-    rw (arm .held6 .given .1) (up (last .lay-numbered4 .ensures) longestHeld (omega arith))
+    rw (arm .held7 .given .1) (up (last .lay-numbered4 .ensures) longestHeld (omega arith))
 
 pub lay-held-spec : {M : Type 1} → statement M
 lay-held-spec =
@@ -290,18 +300,20 @@ lay-held-spec =
     slice-aggregate-lay-word-6
     lay-word-requires-6
     enum-known-held-3
-    slice-aggregate-lay-word-7
-    lay-word-requires-7
-    lay-signed-requires
+    slice-aggregate-lay-against
+    lay-against-requires
     enum-known-held-4
+    slice-aggregate-lay-against-2
+    lay-against-requires-2
+    enum-known-held-5
     lay-age-requires
     slice-aggregate-lay-numbered-3
     lay-numbered-requires-3
-    enum-known-held-5
-    lay-age-requires-2
-    slice-aggregate-lay-word-8
-    lay-word-requires-8
     enum-known-held-6
+    lay-age-requires-2
+    slice-aggregate-lay-word-7
+    lay-word-requires-7
+    enum-known-held-7
     slice-aggregate-lay-numbered-4
     lay-numbered-requires-4
     same-length
@@ -327,4 +339,6 @@ lay-held-spec =
     same-length-11
     returns-11
     same-length-12
-    returns-12)
+    returns-12
+    same-length-13
+    returns-13)

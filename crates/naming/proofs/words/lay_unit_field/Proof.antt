@@ -87,6 +87,24 @@ slice-aggregate-lay-word-9 c = search needs
 lay-word-requires-9 : tie.Need-lay-word-requires-9
 lay-word-requires-9 c κs = search needs
 
+enum-told-10 : tie.Need-enum-told-10
+enum-told-10 c = search needs
+
+slice-aggregate-lay-word-10 : tie.Need-slice-aggregate-lay-word-10
+slice-aggregate-lay-word-10 c = search needs
+
+lay-word-requires-10 : tie.Need-lay-word-requires-10
+lay-word-requires-10 c κs = search needs
+
+enum-told-11 : tie.Need-enum-told-11
+enum-told-11 c = search needs
+
+slice-aggregate-lay-word-11 : tie.Need-slice-aggregate-lay-word-11
+slice-aggregate-lay-word-11 c = search needs
+
+lay-word-requires-11 : tie.Need-lay-word-requires-11
+lay-word-requires-11 c κs = search needs
+
 same-length : tie.Need-same-length
 same-length c = search needs
 
@@ -177,6 +195,26 @@ returns-9 c =
     let arm = last .before .before .before in
     rw (arm .enum-told9 .given .1) (up (last .lay-word9 .ensures) longestName (omega arith))
 
+same-length-10 : tie.Need-same-length-10
+same-length-10 c = search needs
+
+returns-10 : tie.Need-returns-10
+unfolding unitFieldName
+returns-10 c =
+    let last = c .before .before in
+    let arm = last .before .before .before in
+    rw (arm .enum-told10 .given .1) (up (last .lay-word10 .ensures) longestName (omega arith))
+
+same-length-11 : tie.Need-same-length-11
+same-length-11 c = search needs
+
+returns-11 : tie.Need-returns-11
+unfolding unitFieldName
+returns-11 c =
+    let last = c .before .before in
+    let arm = last .before .before .before in
+    rw (arm .enum-told11 .given .1) (up (last .lay-word11 .ensures) longestName (omega arith))
+
 pub lay-unit-field-spec : {M : Type 1} → statement M
 lay-unit-field-spec =
     tie.close
@@ -208,6 +246,12 @@ lay-unit-field-spec =
     enum-told-9
     slice-aggregate-lay-word-9
     lay-word-requires-9
+    enum-told-10
+    slice-aggregate-lay-word-10
+    lay-word-requires-10
+    enum-told-11
+    slice-aggregate-lay-word-11
+    lay-word-requires-11
     same-length
     returns
     same-length-2
@@ -225,4 +269,8 @@ lay-unit-field-spec =
     same-length-8
     returns-8
     same-length-9
-    returns-9)
+    returns-9
+    same-length-10
+    returns-10
+    same-length-11
+    returns-11)

@@ -11,16 +11,16 @@ returns : tie.Need-returns
 unfolding check
 returns c =
     let s = c .before in
-    let t : ltZ (s .args .step-up) (s .args .step-down) ≡ true = plain-lt (s .fits .step-up) (s .fits .step-down) (c .if1 .taken) in
-    let l : leZ (s .args .step-down) (s .args .step-up) ≡ false = omega zarith in
+    let t : ltZ (s .args .high) (s .args .low) ≡ true = plain-lt (s .fits .high) (s .fits .low) (c .if1 .taken) in
+    let l : leZ (s .args .low) (s .args .high) ≡ false = omega zarith in
     simp l
 
 returns-2 : tie.Need-returns-2
 unfolding check
 returns-2 c =
     let s = c .before in
-    let t : ltZ (s .args .step-up) (s .args .step-down) ≡ false = plain-lt (s .fits .step-up) (s .fits .step-down) (c .if1 .left) in
-    let l : leZ (s .args .step-down) (s .args .step-up) ≡ true = omega zarith in
+    let t : ltZ (s .args .high) (s .args .low) ≡ false = plain-lt (s .fits .high) (s .fits .low) (c .if1 .left) in
+    let l : leZ (s .args .low) (s .args .high) ≡ true = omega zarith in
     simp l
 
 pub ordered-spec : {M : Type 1} → statement M

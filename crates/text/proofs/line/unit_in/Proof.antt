@@ -1,9 +1,6 @@
--- Each field is read where the one before it ends, and the last test is that of the end.
-use mathlib.Core.Path.{ap}
+-- Each field is read where the one before it ends, and then the ends, if there are.
 use mir.ValLaws.{toZ-ofZ}
 use mir.Syntax.{w32}
-use Rattle.text.specs.declared.line.Line.the-variants.{Unit}
-use borrow.Author.Tests.{not-true, not-false}
 use Rattle.text.specs.Line.{unitOf}
 use borrow.Author.Needs.{needs}
 use Rattle.text.proofs.line.unit_in.Statement.{statement}
@@ -36,50 +33,35 @@ i32-at-requires-4 c κs = search needs
 minute-at-requires : tie.Need-minute-at-requires
 minute-at-requires c κs = search needs
 
-over-at-requires : tie.Need-over-at-requires
-over-at-requires c κs = search needs
+new-requires : tie.Need-new-requires
+new-requires c κs = search needs
+
+ends-in-requires : tie.Need-ends-in-requires
+ends-in-requires c κs = search needs
 
 returns : tie.Need-returns
 unfolding unitOf
 returns c =
-    let last = c .before .before in
-    let r9 = last .before in
-    let r8 = r9 .before in
-    let r7 = r8 .before in
-    let r6 = r7 .before in
-    let r5 = r6 .before in
-    let r4 = r5 .before in
-    let r3 = r4 .before in
-    let r2 = r3 .before in
-    let r1 = r2 .before in
-    rw (← (r1 .u16-at .ensures), ← (r2 .u8-at .ensures), ← (r3 .u8-at2 .ensures), ← (r4 .u8-at3 .ensures), ← (r5 .i32-at .ensures), ← (r6 .i32-at2 .ensures), ← (r7 .i32-at3 .ensures), ← (r8 .i32-at4 .ensures), ← (r9 .minute-at .ensures), ← (last .over-at .ensures), not-true (last .over-at .result .good) (c .if1 .taken))
-
-new-requires : tie.Need-new-requires
-new-requires c κs = search needs
-
-returns-2 : tie.Need-returns-2
-unfolding unitOf
-returns-2 c =
-    let last = c .before .before .before .before .before .before .before in
-    let r9 = last .before in
-    let r8 = r9 .before in
-    let r7 = r8 .before in
-    let r6 = r7 .before in
-    let r5 = r6 .before in
-    let r4 = r5 .before in
-    let r3 = r4 .before in
-    let r2 = r3 .before in
-    let r1 = r2 .before in
-    rw (← (r1 .u16-at .ensures), ← (r2 .u8-at .ensures), ← (r3 .u8-at2 .ensures), ← (r4 .u8-at3 .ensures), ← (r5 .i32-at .ensures), ← (r6 .i32-at2 .ensures), ← (r7 .i32-at3 .ensures), ← (r8 .i32-at4 .ensures), ← (r9 .minute-at .ensures), ← (last .over-at .ensures), not-false (last .over-at .result .good) (c .before .before .before .before .before .if1 .left))
-    (let t4 = c .before in
+    let made = c .before in
+    let t4 = made .before in
     let t3 = t4 .before in
     let t2 = t3 .before in
     let t1 = t2 .before in
+    let r9 = t1 .before in
+    let r8 = r9 .before in
+    let r7 = r8 .before in
+    let r6 = r7 .before in
+    let r5 = r6 .before in
+    let r4 = r5 .before in
+    let r3 = r4 .before in
+    let r2 = r3 .before in
+    let r1 = r2 .before in
     let n = toZ-ofZ w32 (r5 .i32-at .result .value) (record { sfits = t1 .struct-told .given .0 .1 }) in
     let pc = toZ-ofZ w32 (r6 .i32-at2 .result .value) (record { sfits = t2 .struct-told2 .given .0 .1 }) in
     let down = toZ-ofZ w32 (r7 .i32-at3 .result .value) (record { sfits = t3 .struct-told3 .given .0 .1 }) in
     let up = toZ-ofZ w32 (r8 .i32-at4 .result .value) (record { sfits = t4 .struct-told4 .given .0 .1 }) in
-    ap Unit (rw (n, pc, down, up) at (c .new .ensures)))
+    rw (← (r1 .u16-at .ensures), ← (r2 .u8-at .ensures), ← (r3 .u8-at2 .ensures), ← (r4 .u8-at3 .ensures), ← (r5 .i32-at .ensures), ← (r6 .i32-at2 .ensures), ← (r7 .i32-at3 .ensures), ← (r8 .i32-at4 .ensures), ← (r9 .minute-at .ensures))
+    (rw (made .new .ensures, n, pc, down, up) at (c .ends-in .ensures))
 
 pub unit-in-spec : {M : Type 1} → statement M
 unit-in-spec =
@@ -94,7 +76,6 @@ unit-in-spec =
     i32-at-requires-3
     i32-at-requires-4
     minute-at-requires
-    over-at-requires
-    returns
     new-requires
-    returns-2)
+    ends-in-requires
+    returns)

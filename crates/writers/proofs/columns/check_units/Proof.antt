@@ -34,25 +34,25 @@ checked : (k : Columns) (i : ℕ) {u : UnitRecord} {floor : ℕ} {f g : Checked}
 checked k i e l f g = rw (← e, ← l) (sym f ∙ g)
 
 abbrev Inv-loop : tie.InvT-loop
-Inv-loop number class coincide nominated n pc step-down step-up made floor₀ end₀ i₀ floor end i =
-    Going (columns number class coincide nominated n pc step-down step-up made) floor end i
+Inv-loop number class coincide nominated n pc step-down step-up made kind lower upper floor₀ end₀ i₀ floor end i =
+    Going (columns number class coincide nominated n pc step-down step-up made kind lower upper) floor end i
 
 abbrev μ-loop : tie.MeasureT-loop
-μ-loop number class coincide nominated n pc step-down step-up made floor₀ end₀ i₀ floor end i = length number - i
+μ-loop number class coincide nominated n pc step-down step-up made kind lower upper floor₀ end₀ i₀ floor end i = length number - i
 
 -- the function's entry, from the loop, and the columns that it was given
 abbrev entry : tie.At-loop Inv-loop μ-loop → tie.Start Inv-loop μ-loop
-entry c = c .before .before .before .before .before .before
+entry c = c .before .before .before .before .before .before .before
 
 abbrev given : tie.Start Inv-loop μ-loop → Columns
 given s =
     let a = s .args in
-    columns (now (a .number)) (now (a .class)) (now (a .coincide)) (now (a .nominated)) (now (a .n)) (now (a .pc)) (now (a .step-down)) (now (a .step-up)) (now (a .made))
+    columns (now (a .number)) (now (a .class)) (now (a .coincide)) (now (a .nominated)) (now (a .n)) (now (a .pc)) (now (a .step-down)) (now (a .step-up)) (now (a .made)) (now (a .kind)) (now (a .lower)) (now (a .upper))
 
 loop-holds : tie.Need-loop-holds Inv-loop μ-loop
 unfolding floorAt unitsEnd
 loop-holds c =
-    let start-at = c .before .before .before .before .before in
+    let start-at = c .before .before .before .before .before .before in
     let k = given start-at in
     record { least = refl; on = refl; so = start (scan-steps (rowChecks k)) (count k) 0 }
 

@@ -20,20 +20,20 @@ abbrev records : Columns → ℕ → List ℕ
 records k i = unitBytes (rowOf k i)
 
 abbrev Inv-loop : tie.InvT-loop
-Inv-loop room₀ number class coincide nominated n pc step-down step-up made units here₀ i₀ room here i =
-    Going (records (columns number class coincide nominated n pc step-down step-up made)) units groupLength room₀ room here i
+Inv-loop room₀ number class coincide nominated n pc step-down step-up made kind lower upper units here₀ i₀ room here i =
+    Going (records (columns number class coincide nominated n pc step-down step-up made kind lower upper)) units groupLength room₀ room here i
 
 abbrev μ-loop : tie.MeasureT-loop
-μ-loop room₀ number class coincide nominated n pc step-down step-up made units here₀ i₀ room here i = units - i
+μ-loop room₀ number class coincide nominated n pc step-down step-up made kind lower upper units here₀ i₀ room here i = units - i
 
 -- the function's entry, from the loop, and the columns that it was given
 abbrev entry : tie.At-loop Inv-loop μ-loop → tie.Start Inv-loop μ-loop
-entry c = c .before .before .before .before .before .before .before
+entry c = c .before .before .before .before .before .before .before .before
 
 abbrev given : tie.Start Inv-loop μ-loop → Columns
 given s =
     let a = s .args in
-    columns (now (a .number)) (now (a .class)) (now (a .coincide)) (now (a .nominated)) (now (a .n)) (now (a .pc)) (now (a .step-down)) (now (a .step-up)) (now (a .made))
+    columns (now (a .number)) (now (a .class)) (now (a .coincide)) (now (a .nominated)) (now (a .n)) (now (a .pc)) (now (a .step-down)) (now (a .step-up)) (now (a .made)) (now (a .kind)) (now (a .lower)) (now (a .upper))
 
 -- there is a unit more, and its record fits
 below : (c : tie.In-loop Inv-loop μ-loop) → c .before .loop .i < entry (c .before) .args .units
@@ -49,7 +49,7 @@ loop-holds : tie.Need-loop-holds Inv-loop μ-loop
 unfolding unitsBytes
 loop-holds c =
     let known = c .before in
-    let s = known .before .before .before .before .before in
+    let s = known .before .before .before .before .before .before in
     let units = s .args .units in
     start (records (given s)) units groupLength (now (s .args .room)) (omega (arith, length-units (given s) units, s .pre .1))
 

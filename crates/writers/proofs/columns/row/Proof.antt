@@ -13,18 +13,25 @@ use Rattle.writers.proofs.columns.row.Tie as tie
 returns : tie.Need-returns
 unfolding rowOf
 returns c =
-    let reads = c .before .before .before .before .before in
+    let reads = c .before .before .before .before .before .before .before .before in
     let a = reads .before .before .before .before .args in
     let z0 : toZ w32 (ofZ w32 (getD (now (a .n)) (a .i) (pos 0))) ≡ getD (now (a .n)) (a .i) (pos 0) = search needs in
     let z1 : toZ w32 (ofZ w32 (getD (now (a .pc)) (a .i) (pos 0))) ≡ getD (now (a .pc)) (a .i) (pos 0) = search needs in
     let z2 : toZ w32 (ofZ w32 (getD (now (a .step-down)) (a .i) (pos 0))) ≡ getD (now (a .step-down)) (a .i) (pos 0) = search needs in
     let z3 : toZ w32 (ofZ w32 (getD (now (a .step-up)) (a .i) (pos 0))) ≡ getD (now (a .step-up)) (a .i) (pos 0) = search needs in
-    rw (z0, z1, z2, z3)
+    let z4 : toZ w32 (ofZ w32 (getD (now (a .lower)) (a .i) (pos 0))) ≡ getD (now (a .lower)) (a .i) (pos 0) = search needs in
+    let z5 : toZ w32 (ofZ w32 (getD (now (a .upper)) (a .i) (pos 0))) ≡ getD (now (a .upper)) (a .i) (pos 0) = search needs in
+    rw (z0, z1, z2) (rw (z3, z4, z5))
 
 pub row-spec : {M : Type 1} → statement M
 row-spec =
     tie.close
     (tie.spec
+    (λ c. search needs)
+    (λ c. search needs)
+    (λ c. search needs)
+    (λ c. search needs)
+    (λ c. search needs)
     (λ c. search needs)
     (λ c. search needs)
     (λ c. search needs)

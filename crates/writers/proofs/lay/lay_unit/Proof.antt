@@ -1,81 +1,92 @@
--- The unit record: each part is laid where the one before ends.
+-- The unit record: the body, and behind that of an 04h its ends.
 use mathlib.Core.Path.{_≡_, refl}
+use mathlib.Core.Bool.{true}
+use Prim.Native.Nat.{_+_, _≤_}
 use native.Mathlib.Omega.{arith}
+use lib.Dec.{eqb}
+use lib.ListN.{length}
+use borrow.Author.Tests.{eq-eqb, ne-eqb}
 use denote.Ref.{now}
-use Rattle.numbers.proofs.Laid.{laid-next}
 use mir.Syntax.{w32}
-use mir.Val.{toZ, ofZ}
+use mir.Val.{SFits}
 use mir.Facts.{toZ-ofZ}
 use Rattle.numbers.specs.Bytes.{bytes16, bytes32}
-use Rattle.records.specs.Layouts.{behind, unitBytes}
-use Rattle.writers.specs.Inner.{quantities}
+use Rattle.numbers.proofs.Laid.{laid-next}
+use Rattle.records.specs.Layouts.{behind, intervalKind, intervalLength, unitBytes}
+use Rattle.records.proofs.UnitHeads.{length-least}
+use Rattle.writers.specs.Inner.{quantities, bodyBytes}
 use borrow.Author.Needs.{needs}
 use Rattle.writers.proofs.lay.lay_unit.Statement.{statement}
 use Rattle.writers.proofs.lay.lay_unit.Tie as tie
 
-lay-head-requires : tie.Need-lay-head-requires
-lay-head-requires c κs = search needs
+-- the function's entry, from the body, and the body, from the test of the kind
+abbrev entry : tie.After-lay-body → tie.Start
+entry c = c .before .before .before
 
-add-lay-three : tie.Need-add-lay-three
-add-lay-three c = search needs
+abbrev body : tie.After-struct-known → tie.After-lay-body
+body c = c .before .before .before
 
-lay-three-requires : tie.Need-lay-three-requires
-lay-three-requires c κs = search needs
+-- an 04h has room for its ends
+own : (c : tie.Then1) → eqb (entry (body (c .before)) .args .u .kind) intervalKind ≡ true
+own c = eq-eqb _ _ (c .if1 .taken)
 
-add-lay-four : tie.Need-add-lay-four
-add-lay-four c = search needs
+fits : (c : tie.Then1) → entry (body (c .before)) .args .at + intervalLength ≤ length (now (entry (body (c .before)) .args .room))
+fits c = rw (own c) at (entry (body (c .before)) .pre)
 
-lay-four-requires : tie.Need-lay-four-requires
-lay-four-requires c κs = search needs
+lay-body-requires : tie.Need-lay-body-requires
+lay-body-requires c κs =
+    let s = c .before .before in
+    omega (arith, s .pre, length-least (s .args .u))
 
-add-lay-u32 : tie.Need-add-lay-u32
-add-lay-u32 c =
-    let four = c .before .before .before in
-    let told = four .before .before .before in
-    let three = told .before .before .before .before .before in
-    let lay-head = three .before .before .before .before in
-    let s = lay-head .before .before .before .before .before in
-    omega (arith, s .pre, s .good)
+add-lay-i32 : tie.Need-add-lay-i32
+add-lay-i32 c = search needs
 
-lay-u32-requires : tie.Need-lay-u32-requires
-lay-u32-requires c κs = search needs
+lay-i32-requires : tie.Need-lay-i32-requires
+lay-i32-requires c κs = omega (arith, fits (c .before .before))
+
+add-lay-i32-2 : tie.Need-add-lay-i32-2
+add-lay-i32-2 c = search needs
+
+lay-i32-requires-2 : tie.Need-lay-i32-requires-2
+lay-i32-requires-2 c κs = omega (arith, fits (c .before .before .before .before .before .before .before))
 
 same-length : tie.Need-same-length
 same-length c = search needs
 
 returns : tie.Need-returns
-unfolding unitBytes quantities behind bytes32 bytes16
+unfolding unitBytes bodyBytes quantities behind bytes32 bytes16
 returns c =
-    let d4 = c .before .before in
-    let d3 = d4 .before .before .before .before in
-    let told = d3 .before .before .before in
-    let d2 = told .before .before .before .before .before in
-    let d1 = d2 .before .before .before .before in
-    let s = d1 .before .before .before .before .before in
-    let h = s .pre in
+    let upper = c .before .before in
+    let lower = upper .before .before .before .before .before in
+    let test = lower .before .before .before in
+    let s = entry (body (test .before)) in
+    let u = s .args .u in
     let l = now (s .args .room) in
     let i = s .args .at in
-    let u = s .args .u in
+    let h = fits test in
     let k = s .good .1 .1 .0 .1 .1 .1 .1 .1 .1 in
-    let zn : toZ w32 (ofZ w32 (u .n .0)) ≡ u .n .0 = toZ-ofZ (record { sfits = k .0 .1 .1 .0 .1 }) in
-    let zp : toZ w32 (ofZ w32 (u .pc .0)) ≡ u .pc .0 = toZ-ofZ (record { sfits = k .1 .0 .1 .1 .0 .1 }) in
-    let zd : toZ w32 (ofZ w32 (u .«step_down»)) ≡ u .«step_down» = toZ-ofZ (record { sfits = k .1 .1 .0 .1 }) in
-    let zu : toZ w32 (ofZ w32 (u .«step_up»)) ≡ u .«step_up» = toZ-ofZ (record { sfits = k .1 .1 .1 .0 .1 }) in
-    let q = rw (zn, zp, zd, zu) at (d3 .lay-four .ensures) in
-    let e = laid-next l i _ _ _ (d1 .lay-head .ensures) (d2 .lay-three .ensures) refl (omega arith) in
-    let f = laid-next l i _ _ _ e q refl (omega arith) in
-    laid-next l i _ _ _ f (d4 .lay-u32 .ensures) refl (omega arith)
+    let fl : SFits w32 (u .lower) = record { sfits = k .1 .1 .1 .1 .1 .1 .0 .1 } in
+    let fu : SFits w32 (u .upper) = record { sfits = k .1 .1 .1 .1 .1 .1 .1 .0 .1 } in
+    let e = laid-next l i _ _ _ (body (test .before) .lay-body .ensures) (simp toZ-ofZ at (lower .lay-i32 .ensures)) refl (omega arith) in
+    rw (own test) (laid-next l i _ _ _ e (simp toZ-ofZ at (upper .lay-i322 .ensures)) refl (omega arith))
+
+same-length-2 : tie.Need-same-length-2
+same-length-2 c = search needs
+
+returns-2 : tie.Need-returns-2
+unfolding unitBytes bodyBytes quantities behind bytes32 bytes16
+returns-2 c = rw (ne-eqb _ _ (c .if1 .left)) (body (c .before) .lay-body .ensures)
 
 pub lay-unit-spec : {M : Type 1} → statement M
 lay-unit-spec =
     tie.close
     (tie.spec
-    lay-head-requires
-    add-lay-three
-    lay-three-requires
-    add-lay-four
-    lay-four-requires
-    add-lay-u32
-    lay-u32-requires
+    lay-body-requires
+    add-lay-i32
+    lay-i32-requires
+    add-lay-i32-2
+    lay-i32-requires-2
     same-length
-    returns)
+    returns
+    same-length-2
+    returns-2)
