@@ -1,6 +1,4 @@
 -- Laws of the list's lines.
-pub mod Digits
-pub mod Spelling
 pub mod Pairs
 pub mod Parts
 pub mod Signs

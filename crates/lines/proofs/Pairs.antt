@@ -11,11 +11,11 @@ use lib.Seq.{take-at, drop-drop, drop-append-add, length-take-le}
 use Rattle.numbers.specs.Bytes.{laidAt}
 use Rattle.numbers.specs.Column.{column}
 use Rattle.numbers.specs.Sum.{bit}
+use Rattle.numbers.specs.Decimal.{digit, decimal}
 use Rattle.numbers.proofs.Columns.{column-at, column-length}
 use Rattle.numbers.proofs.Laid.{length-laid, laid-more, laid-next, laid-before, laid-under}
-use Rattle.lines.specs.Lines.{digit, decimal}
 use Rattle.lines.specs.Inner.{Lays, pairOf, digitPairs}
-use Rattle.lines.proofs.Digits.{one-figure, more-figures, one-digit, so-many}
+use Rattle.numbers.proofs.Digits.{one-figure, more-figures, one-digit, so-many}
 
 -- ---- the table
 pub pair-count : length digitPairs ≡ 100

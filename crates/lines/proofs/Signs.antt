@@ -10,8 +10,9 @@ use mir.Syntax.{w32}
 use mir.Val.{hbits}
 use mir.Facts.{toZ-pos}
 use Rattle.numbers.specs.Bytes.{signed32}
+use Rattle.numbers.specs.Decimal.{decimal}
 use Rattle.numbers.proofs.Integers.{lt-t, lt-f, abs-z, read-down, zarith}
-use Rattle.lines.specs.Lines.{decimal, signedDecimal}
+use Rattle.lines.specs.Lines.{signedDecimal}
 
 pub negative : (z : ℤ) → ltZ z (pos 0) ≡ true → signedDecimal z ≡ 45 ∷ decimal (natAbs z)
 unfolding signedDecimal

@@ -7,10 +7,11 @@ use lib.Dec.{eqb}
 use lib.ListN.{length}
 use Rattle.numbers.specs.Bytes.{byteAt, be32, laidAt}
 use Rattle.numbers.specs.Column.{column}
+use Rattle.numbers.specs.Decimal.{digit}
 use Rattle.records.specs.Layouts.{resultCount}
 use Rattle.terms.specs.Checks.{mostUnits}
 use Rattle.writers.specs.Results.{resultLength}
-use Rattle.lines.specs.Lines.{digit, spaced}
+use Rattle.lines.specs.Lines.{spaced}
 
 -- these bytes, at most so many, are laid from a place on, and r is the place after them
 pub record Lays (entry : List ℕ) (at : ℕ) (bytes : List ℕ) (most r : ℕ) (exit : List ℕ) : Type 0 where

@@ -1,9 +1,8 @@
 -- "The day list": lines of a word and its fields, parted by one space; each line ends in one line feed.
-use Prim.Native.Nat.{ℕ, zero, suc, _+_, _*_, _/_, _%_}
+use Prim.Native.Nat.{ℕ, suc, _+_, _*_}
 use mathlib.Core.List.{List, [], _∷_, _++_}
-use lib.Dec.{ltb}
 use lib.IntN.{ℤ, pos, negsuc}
-use Rattle.numbers.specs.Choice.{pick}
+use Rattle.numbers.specs.Decimal.{decimal}
 use Rattle.records.specs.declared.day.DayRecord.{DayRecord}
 use Rattle.records.specs.declared.group_result.GroupResult.{GroupResult}
 use Rattle.records.specs.declared.unit_result.UnitResult.{UnitResult}
@@ -11,19 +10,7 @@ use Rattle.records.specs.Layouts.{groupResultLength, groupResultAt, unitResultL
 use Rattle.terms.specs.Checks.{mostUnits}
 use Rattle.writers.specs.Runs.{run}
 
--- ---- numbers, in ASCII
-abbrev pub digit : ℕ → ℕ
-digit d = 48 + d
-
--- at most so many digits of a number, the most significant first and no zero in front
-unfoldable pub digits : ℕ → ℕ → List ℕ
-digits zero n = []
-digits (suc most) n = pick (ltb n 10) (digit n ∷ []) (digits most (n / 10) ++ (digit (n % 10) ∷ []))
-
--- all the digits of a number: one of 64 bits has at most 20
-unfoldable pub decimal : ℕ → List ℕ
-decimal n = digits 20 n
-
+-- ---- numbers
 -- a minus sign in front of a negative number
 unfoldable pub signedDecimal : ℤ → List ℕ
 signedDecimal (pos n) = decimal n

@@ -4,12 +4,9 @@ ghost use mathlib.Core.List.{[], _∷_};
 ghost use Prim.Native.Nat.{_+_, _/_, _%_, _≤_, _<_};
 ghost use lib.ListN.{length};
 ghost use Rattle.numbers.specs.Bytes.{laidAt};
-ghost use Rattle.lines.specs.Lines.{digit, decimal};
+ghost use Rattle.numbers.specs.Decimal.{digit, decimal};
 ghost use Rattle.lines.specs.Inner.{Lays, digitPairs};
 use numbers::bytes::lay_u8;
-
-// The digit 0, in ASCII.
-pub const ZERO: u8 = 48;
 
 // Where a number has more digits than two pairs.
 pub const FEW: u32 = 10000;
@@ -74,32 +71,4 @@ pub fn digit_count(n: u32) -> usize
         return 9;
     }
     10
-}
-
-// How many digits a number of 64 bits has.
-pub fn long_count(n: u64) -> usize
-    ensures { λ r. ⌜ r ≡ length (decimal n) ⌝ }
-{
-    let mut count = 1;
-    let mut rest = n;
-    while 10 <= rest {
-        rest /= 10;
-        count += 1;
-    }
-    count
-}
-
-// All digits of a number, the last one first; its caller counted them.
-pub fn lay_digits(out: &mut [u8], at: usize, count: usize, n: u64)
-    requires { ⌜ (count ≡ length (decimal n)) × (at + count ≤ length (now out)) ⌝ }
-    ensures { λ _. ⌜ now (out .exit) ≡ laidAt (now (out .entry)) at (decimal n) ⌝ }
-{
-    let mut last = at + count - 1;
-    let mut rest = n;
-    while 10 <= rest {
-        lay_u8(out, last, ZERO + (rest % 10) as u8);
-        rest /= 10;
-        last -= 1;
-    }
-    lay_u8(out, last, ZERO + rest as u8);
 }

@@ -6,12 +6,13 @@ use lib.Dec.{ltb}
 use lib.ListN.{length}
 use Rattle.numbers.specs.Bytes.{laidAt}
 use Rattle.numbers.specs.Choice.{pick}
+use Rattle.numbers.specs.Decimal.{decimal}
 use Rattle.terms.specs.declared.refusal.Refusal.{Refusal}
 use Rattle.records.specs.declared.key.Key.{Key}
 use Rattle.records.specs.declared.key.Last.{Last}
 use Rattle.records.specs.declared.key.Last.the-variants as K
 use Rattle.day.specs.declared.value.Day.{Day}
-use Rattle.lines.specs.Lines.{decimal, signedDecimal, u32Field, u64Field, i32Field}
+use Rattle.lines.specs.Lines.{signedDecimal, u32Field, u64Field, i32Field}
 use Rattle.finding.specs.declared.named.Subject.{Subject}
 use Rattle.finding.specs.declared.named.Subject.the-variants as S
 use Rattle.finding.specs.declared.named.UnitField.{UnitField}

@@ -2,7 +2,8 @@
 ghost use mathlib.Core.List.{_∷_};
 ghost use Prim.Native.Nat.{_+_, _≤_};
 ghost use lib.ListN.{length};
-ghost use Rattle.lines.specs.Lines.{decimal, signedDecimal, i32Field, u32Field, u64Field};
+ghost use Rattle.numbers.specs.Decimal.{decimal};
+ghost use Rattle.lines.specs.Lines.{signedDecimal, i32Field, u32Field, u64Field};
 ghost use Rattle.lines.specs.Inner.{Lays};
 ghost use Rattle.naming.specs.Words.{numbered, keyWords, subjectWords, unitFieldName, fieldName, valueWords, againstWords, ageWords, heldWords, toldWords, lastWords, findingWords, nameLine};
 ghost use Rattle.naming.specs.Words.{longestKey, longestSubject, longestName, longestValue, longestAge, longestHeld, longestFinding, longestLine};

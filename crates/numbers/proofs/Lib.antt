@@ -6,3 +6,6 @@ pub mod Filling
 pub mod Sums
 pub mod Laid
 pub mod Trips
+pub mod Digits
+pub mod Spelling
+pub mod ReadBack

@@ -1,3 +1,4 @@
-// Whole numbers: columns and sums, and numbers as bytes.
+// Whole numbers: columns and sums, numbers as bytes and in decimal.
 pub mod bytes;
+pub mod decimal;
 pub mod signed;

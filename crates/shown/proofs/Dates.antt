@@ -8,20 +8,21 @@ use borrow.Author.Tests.{leb-true}
 use lib.Dec.{leb}
 use lib.ListN.{length}
 use Rattle.numbers.specs.Choice.{pick}
+use Rattle.numbers.specs.Decimal.{digit, allDigits, numberFrom}
 use Rattle.calendar.specs.declared.date.Date.{Date}
 use Rattle.calendar.specs.declared.moment.Moment.{Moment}
 use Rattle.calendar.specs.declared.moment.Shown.the-variants.{At, Later}
 use Rattle.calendar.specs.Calendar.{dateOf, momentOf, shownOf, lastMinute}
 use Rattle.calendar.proofs.Trips.{day-date, minute-moment}
-use Rattle.lines.specs.Lines.{digit}
-use Rattle.lines.proofs.Digits.{some-digit}
+use Rattle.numbers.proofs.Digits.{some-digit}
+use Rattle.numbers.proofs.ReadBack.{digit-is}
 use Rattle.text.specs.declared.numbers_in.Size.the-variants.{Is}
-use Rattle.text.specs.Numbers.{allDigits, numberFrom, sizeOf, fieldOf}
+use Rattle.text.specs.Numbers.{sizeOf, fieldOf}
 use Rattle.text.specs.Dates.{hasDate, dateIn, hasTime, momentIn, dayIn, minuteIn}
 use Rattle.shown.specs.Inner.{Few, FewMoment}
 use Rattle.shown.specs.Shown.{twoDigits, dateWord, momentWord, dayShown, minuteShown, shownAs, whole}
 use Rattle.shown.proofs.Few.{few-date, few-moment}
-use Rattle.shown.proofs.Figures.{digit-is, size-is, minute-read, solid-more, solid-decimal}
+use Rattle.shown.proofs.Figures.{size-is, minute-read, solid-more, solid-decimal}
 
 two-size : (n : ℕ) → n < 100 → sizeOf (twoDigits n) ≡ Is n
 unfolding allDigits numberFrom

@@ -8,11 +8,12 @@ use borrow.Author.Tests.{eq-eqb}
 use lib.ListN.{length, length-append}
 use lib.Seq.{drop-length}
 use Rattle.numbers.specs.Bytes.{Bytes}
+use Rattle.numbers.specs.Decimal.{decimal}
 use Rattle.numbers.proofs.Trips.{below16, below32}
 use Rattle.records.specs.declared.day.DayRecord.{DayRecord}
 use Rattle.records.specs.Layouts as L
-use Rattle.lines.specs.Lines.{decimal, spaced, line, dayLine}
-use Rattle.lines.proofs.Digits.{some-digit}
+use Rattle.lines.specs.Lines.{spaced, line, dayLine}
+use Rattle.numbers.proofs.Digits.{some-digit}
 use Rattle.text.specs.declared.fields.Field.{Field}
 use Rattle.text.specs.declared.line.DayLine.the-variants.{Is}
 use Rattle.text.specs.declared.values_in.Form.the-variants as F

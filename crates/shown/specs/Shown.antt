@@ -7,12 +7,13 @@ use lib.Dec.{ltb}
 use lib.ListN.{length}
 use Rattle.numbers.specs.Bytes.{laidAt}
 use Rattle.numbers.specs.Choice.{pick}
+use Rattle.numbers.specs.Decimal.{digit, decimal}
 use Rattle.calendar.specs.declared.date.Date.{Date}
 use Rattle.calendar.specs.declared.moment.Moment.{Moment}
 use Rattle.calendar.specs.declared.moment.Shown.{Shown}
 use Rattle.calendar.specs.declared.moment.Shown.the-variants.{At, Later}
 use Rattle.calendar.specs.Calendar.{dateOf, shownOf}
-use Rattle.lines.specs.Lines.{digit, decimal, spaced, line, dayLine, u32Field}
+use Rattle.lines.specs.Lines.{spaced, line, dayLine, u32Field}
 use Rattle.records.specs.declared.day.DayRecord.{DayRecord}
 use Rattle.text.specs.declared.numbers_in.Whole.{Whole}
 use Rattle.text.specs.declared.line.DayLine.{DayLine}

@@ -2,7 +2,8 @@
 ghost use mathlib.Core.List.{_∷_};
 ghost use Prim.Native.Nat.{_+_, _≤_, _<_};
 ghost use lib.ListN.{length};
-ghost use Rattle.lines.specs.Lines.{decimal, u32Field};
+ghost use Rattle.numbers.specs.Decimal.{decimal};
+ghost use Rattle.lines.specs.Lines.{u32Field};
 ghost use Rattle.lines.specs.Inner.{Lays};
 ghost use Rattle.shown.specs.Inner.{Few, FewMoment};
 ghost use Rattle.shown.specs.Shown.{twoDigits, dateWord, momentWord, dayShown, minuteShown, datedLine, longestDated};

@@ -8,13 +8,10 @@ use native.Mathlib.Omega.{arith}
 use borrow.Author.Tests.{le-leb, lt-leb}
 use lib.ListN.{length, getD, drop}
 use lib.Seq.{drop-cons, drop-length}
+use Rattle.numbers.specs.Decimal.{isDigit, allDigits, numberFrom}
+use Rattle.numbers.proofs.ReadBack.{grows}
 use Rattle.text.specs.declared.numbers_in.Size.the-variants.{Is, No}
-use Rattle.text.specs.Numbers.{isDigit, allDigits, numberFrom, sizeFrom, minus}
-
-pub grows : (n : ℕ) (s : List ℕ) → n ≤ numberFrom n s
-unfolding numberFrom
-grows n [] = omega arith
-grows n (b ∷ s) = omega (arith, grows (n * 10 + (b - 48)) s)
+use Rattle.text.specs.Numbers.{sizeFrom, minus}
 
 pub and-false : (a : Bool) → a && false ≡ false
 and-false true = refl

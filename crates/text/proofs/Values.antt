@@ -8,10 +8,11 @@ use borrow.Author.Tests.{leb-true}
 use lib.Dec.{leb, ltb}
 use lib.ListN.{length}
 use Rattle.numbers.specs.Choice.{pick}
+use Rattle.numbers.specs.Decimal.{allDigits, numberFrom}
 use Rattle.text.specs.declared.numbers_in.Size.the-variants.{Is, No}
 use Rattle.text.specs.declared.values_in.Form.{Form}
 use Rattle.text.specs.declared.values_in.Form.the-variants.{Number, Day, Minute}
-use Rattle.text.specs.Numbers.{allDigits, numberFrom, sizeFrom, sizeOf, noWhole, numberIn}
+use Rattle.text.specs.Numbers.{sizeFrom, sizeOf, noWhole, numberIn}
 use Rattle.text.specs.Dates.{dayIn, minuteIn, valueIn}
 
 pub nothing-there : (form : Form) → valueIn form [] ≡ noWhole

@@ -1,26 +1,14 @@
 -- The text form (docs/TEXT.md): a field of a line, and the number that it makes.
-use Prim.Native.Nat.{ℕ, suc, _+_, _*_, _-_}
+use Prim.Native.Nat.{ℕ, suc}
 use mathlib.Core.Bool.{Bool, true, false, _&&_, _||_}
 use mathlib.Core.List.{List, [], _∷_}
 use lib.Dec.{leb, ltb, eqb}
 use lib.ListN.{length, getD, drop}
 use Rattle.numbers.specs.Choice.{pick}
+use Rattle.numbers.specs.Decimal.{allDigits, numberFrom}
 use Rattle.text.specs.declared.numbers_in.Whole.{Whole}
 use Rattle.text.specs.declared.numbers_in.Size.{Size}
 use Rattle.text.specs.declared.numbers_in.Size.the-variants.{Is, No}
-
--- 0 to 9
-abbrev pub isDigit : ℕ → Bool
-isDigit b = leb 48 b && leb b 57
-
-unfoldable pub allDigits : List ℕ → Bool
-allDigits [] = true
-allDigits (b ∷ s) = isDigit b && allDigits s
-
--- the number in decimal that digits make after a number that is read already
-unfoldable pub numberFrom : ℕ → List ℕ → ℕ
-numberFrom n [] = n
-numberFrom n (b ∷ s) = numberFrom (n * 10 + (b - 48)) s
 
 -- digits alone, and a number that 32 bits hold
 unfoldable pub sizeFrom : ℕ → List ℕ → Size

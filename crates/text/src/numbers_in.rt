@@ -1,9 +1,11 @@
 // Whole numbers in the text of a line.
 ghost use mathlib.Core.Path.{_≡_};
 ghost use mathlib.Core.Bool.{true};
-ghost use Prim.Native.Nat.{_+_, _-_, _≤_};
+ghost use Prim.Native.Nat.{_+_, _-_};
 ghost use lib.ListN.{length, drop};
-ghost use Rattle.text.specs.Numbers.{isDigit, sizeOf, isBlank, blanks, fieldOf, minus, noWhole, numberIn};
+ghost use Rattle.text.specs.Numbers.{sizeOf, isBlank, blanks, fieldOf, minus, noWhole, numberIn};
+use numbers::decimal::digit_value;
+use numbers::decimal::is_digit;
 
 const TAB: u8 = 9;
 
@@ -33,22 +35,6 @@ pub fn none() -> Whole
     }
 }
 
-fn is_digit(byte: u8) -> bool
-    ensures { λ r. ⌜ r ≡ isDigit byte ⌝ }
-{
-    if byte < b'0' {
-        return false;
-    }
-    byte <= b'9'
-}
-
-fn digit(byte: u8) -> u64
-    requires { ⌜ isDigit byte ≡ true ⌝ }
-    ensures { λ r. ⌜ (r ≡ byte - 48) × (r ≤ 9) ⌝ }
-{
-    (byte - b'0') as u64
-}
-
 // The number that one digit or more make, unless it is above the largest.
 pub fn size_of(digits: &[u8]) -> Size
     ensures { λ r. ⌜ r ≡ sizeOf (now (digits .entry)) ⌝ }
@@ -63,7 +49,7 @@ pub fn size_of(digits: &[u8]) -> Size
         if !is_digit(byte) {
             return Size::No;
         }
-        size = size * 10 + digit(byte);
+        size = size * 10 + digit_value(byte);
         if LARGEST < size {
             return Size::No;
         }

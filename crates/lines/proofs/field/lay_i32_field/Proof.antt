@@ -6,8 +6,9 @@ use lib.IntN.{natAbs}
 use lib.ListN.{length}
 use mir.Facts.{toZ-ofZ}
 use denote.Ref.{now}
-use Rattle.lines.specs.Lines.{decimal, i32Field}
-use Rattle.lines.proofs.Digits.{no-more}
+use Rattle.numbers.specs.Decimal.{decimal}
+use Rattle.lines.specs.Lines.{i32Field}
+use Rattle.numbers.proofs.Digits.{no-more}
 use Rattle.lines.proofs.Parts.{then, one-byte, within}
 use Rattle.lines.proofs.Signs.{negative, natural}
 use borrow.Author.Needs.{needs}

@@ -3,7 +3,7 @@ use Prim.Native.Nat.{_+_}
 use native.Mathlib.Omega.{arith}
 use lib.ListN.{length}
 use denote.Ref.{now}
-use Rattle.lines.specs.Lines.{decimal}
+use Rattle.numbers.specs.Decimal.{decimal}
 use Rattle.lines.proofs.Parts.{then, one-byte, lays}
 use borrow.Author.Needs.{needs}
 use Rattle.lines.proofs.field.lay_number.Statement.{statement}

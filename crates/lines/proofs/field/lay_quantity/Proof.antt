@@ -8,8 +8,9 @@ use mir.Val.{SFits}
 use mir.Facts.{toZ-ofZ}
 use denote.Ref.{now}
 use Rattle.numbers.specs.Bytes.{signed32}
-use Rattle.lines.specs.Lines.{decimal, i32Field}
-use Rattle.lines.proofs.Digits.{no-more}
+use Rattle.numbers.specs.Decimal.{decimal}
+use Rattle.lines.specs.Lines.{i32Field}
+use Rattle.numbers.proofs.Digits.{no-more}
 use Rattle.lines.proofs.Parts.{within}
 use Rattle.lines.proofs.Signs.{low-bits}
 use borrow.Author.Needs.{needs}

@@ -1,11 +1,11 @@
 -- `lay_u64_field` meets its contract: the number has at most 20 digits, and they stand behind the space.
+use Rattle.numbers.specs.Decimal.{decimal}
 use Rattle.lines.proofs.Parts.{then, one-byte, lays}
 use Prim.Native.Nat.{ℕ, _+_, _<_, _≤_}
 use native.Mathlib.Omega.{arith}
 use lib.ListN.{length}
 use denote.Ref.{now}
-use Rattle.lines.specs.Lines.{decimal}
-use Rattle.lines.proofs.Digits.{no-more}
+use Rattle.numbers.proofs.Digits.{no-more}
 use borrow.Author.Needs.{needs}
 use Rattle.lines.proofs.field.lay_u64_field.Statement.{statement}
 use Rattle.lines.proofs.field.lay_u64_field.Tie as tie

@@ -5,8 +5,9 @@ use mathlib.Core.List.{[], _∷_}
 use native.Mathlib.Omega.{arith}
 use lib.ListN.{length}
 use denote.Ref.{now}
-use Rattle.lines.specs.Lines.{digit, decimal, u8Field}
-use Rattle.lines.proofs.Digits.{one-figure, no-more}
+use Rattle.numbers.specs.Decimal.{decimal}
+use Rattle.lines.specs.Lines.{u8Field}
+use Rattle.numbers.proofs.Digits.{one-figure, no-more}
 use Rattle.lines.proofs.Parts.{then, one-byte, lays, within}
 use borrow.Author.Needs.{needs}
 use Rattle.lines.proofs.field.lay_u8_field.Statement.{statement}

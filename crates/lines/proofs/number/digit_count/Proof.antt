@@ -2,7 +2,7 @@
 use Prim.Native.Nat.{_<_}
 use mathlib.Core.Path.{refl, sym}
 use native.Mathlib.Omega.{arith}
-use Rattle.lines.proofs.Digits.{so-many}
+use Rattle.numbers.proofs.Digits.{so-many}
 use Rattle.lines.proofs.number.digit_count.Statement.{statement}
 use Rattle.lines.proofs.number.digit_count.Tie as tie
 

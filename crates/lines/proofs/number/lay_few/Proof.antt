@@ -6,7 +6,7 @@ use lib.Dec.{ltb}
 use denote.Ref.{now}
 use Rattle.numbers.proofs.Sums.{bit-one}
 use Rattle.numbers.specs.Sum.{bit}
-use Rattle.lines.proofs.Digits.{some-digit}
+use Rattle.numbers.proofs.Digits.{some-digit}
 use Rattle.lines.proofs.Pairs.{few-count, few-laid}
 use borrow.Author.Needs.{needs}
 use Rattle.lines.proofs.number.lay_few.Statement.{statement}

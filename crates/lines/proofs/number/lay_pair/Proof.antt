@@ -6,8 +6,8 @@ use native.Mathlib.Omega.{arith}
 use lib.ListN.{length, getD}
 use denote.Ref.{now}
 use Rattle.numbers.specs.Bytes.{laidAt}
+use Rattle.numbers.specs.Decimal.{digit}
 use Rattle.numbers.proofs.Laid.{laid-next}
-use Rattle.lines.specs.Lines.{digit}
 use Rattle.lines.specs.Inner.{pairOf}
 use Rattle.lines.proofs.Pairs.{pair-count, pair-at}
 use borrow.Author.Needs.{needs}

@@ -2,7 +2,7 @@
 use Prim.Native.Nat.{_+_, _/_}
 use native.Mathlib.Omega.{arith}
 use denote.Ref.{now}
-use Rattle.lines.specs.Lines.{digit}
+use Rattle.numbers.specs.Decimal.{digit}
 use Rattle.lines.proofs.Parts.{then, one-byte, lays}
 use borrow.Author.Needs.{needs}
 use Rattle.shown.proofs.words.lay_two.Statement.{statement}

@@ -45,8 +45,8 @@ returns-2 c =
 mul-size : tie.Need-mul-size Inv-loop μ-loop
 mul-size c = search needs
 
-digit-requires : tie.Need-digit-requires Inv-loop μ-loop
-digit-requires c κs = sym (c .before .is-digit .ensures) ∙ not-false _ (c .if2 .left)
+digit-value-requires : tie.Need-digit-value-requires Inv-loop μ-loop
+digit-value-requires c κs = sym (c .before .is-digit .ensures) ∙ not-false _ (c .if2 .left)
 
 add-size : tie.Need-add-size Inv-loop μ-loop
 add-size c = search needs
@@ -59,9 +59,9 @@ returns-3 c =
     let start = loop .before .before .before in
     let l = loop .loop in
     let s = now (start .args .digits) in
-    let v = l .size * 10 + c .before .digit .result in
+    let v = l .size * 10 + c .before .digit-value .result in
     let t = sym (is-digit .is-digit .ensures) ∙ not-false _ (c .before .before .if2 .left) in
-    rw (lt-ltb 0 (length s) (l .inv .1 .1 .0), l .inv .1 .1 .1, turn (l .size) s (l .i) (is-digit .before .before .loop-test .taken) t, ← (c .before .digit .ensures .0))
+    rw (lt-ltb 0 (length s) (l .inv .1 .1 .0), l .inv .1 .1 .1, turn (l .size) s (l .i) (is-digit .before .before .loop-test .taken) t, ← (c .before .digit-value .ensures .0))
     (sym (too-large v (drop (l .i + 1) s) (c .if3 .taken)))
 
 add-i : tie.Need-add-i Inv-loop μ-loop
@@ -79,7 +79,7 @@ loop-again c =
     let s = now (start .args .digits) in
     let t = sym (is-digit .is-digit .ensures) ∙ not-false _ (c .before .before .if2 .left) in
     let e = turn (l .size) s (l .i) (is-digit .before .before .loop-test .taken) t in
-    (omega arith, (omega arith, (omega arith, l .inv .1 .1 .1 ∙ rw (c .before .digit .ensures .0) e)))
+    (omega arith, (omega arith, (omega arith, l .inv .1 .1 .1 ∙ rw (c .before .digit-value .ensures .0) e)))
 
 returns-4 : tie.Need-returns-4 Inv-loop μ-loop
 unfolding sizeOf
@@ -102,7 +102,7 @@ size-of-spec =
     is-digit-requires
     returns-2
     mul-size
-    digit-requires
+    digit-value-requires
     add-size
     returns-3
     add-i

@@ -1,10 +1,10 @@
 -- `long_count` meets its contract: the digits counted and those of what is left are all the digits.
 use Prim.Native.Nat.{_<_}
 use native.Mathlib.Omega.{arith}
-use Rattle.lines.proofs.Digits.{no-more}
-use Rattle.lines.proofs.Spelling.{Counting, first-count, next-count, below-count, last-count}
-use Rattle.lines.proofs.number.long_count.Statement.{statement}
-use Rattle.lines.proofs.number.long_count.Tie as tie
+use Rattle.numbers.proofs.Digits.{no-more}
+use Rattle.numbers.proofs.Spelling.{Counting, first-count, next-count, below-count, last-count}
+use Rattle.numbers.proofs.decimal.long_count.Statement.{statement}
+use Rattle.numbers.proofs.decimal.long_count.Tie as tie
 
 abbrev Inv-loop : tie.InvT-loop
 Inv-loop n count₀ rest₀ count rest = Counting n count rest

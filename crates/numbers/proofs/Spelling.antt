@@ -1,26 +1,13 @@
 -- The digits of a number, laid from the last one back: those that are laid stand behind those of what is left.
 use Prim.Native.Nat.{ℕ, zero, suc, _+_, _-_, _/_, _%_, _^_, _≤_, _<_}
-use mathlib.Core.Path.{_≡_, sym, ap, _∙_}
+use mathlib.Core.Path.{_≡_, refl, sym, ap, _∙_}
 use mathlib.Core.List.{List, [], _∷_, _++_, append-assoc, append-nil}
 use native.Mathlib.Omega.{arith}
-use lib.ListN.{length, take, drop}
-use lib.Seq.{drop-at, take-take, take-append-le, length-take-le}
+use lib.ListN.{length}
 use Rattle.numbers.specs.Bytes.{laidAt}
-use Rattle.numbers.proofs.Laid.{laid-none, length-laid}
-use Rattle.lines.specs.Lines.{digit, digits, decimal}
-use Rattle.lines.proofs.Digits.{last-digit, more-digits, more-length, tenth-below, some}
-
--- a byte in front of a run is one run
-laid-before : (l : List ℕ) (i x : ℕ) (ys : List ℕ) → i + 1 + length ys ≤ length l → laidAt (laidAt l (i + 1) ys) i (x ∷ []) ≡ laidAt l i (x ∷ ys)
-unfolding laidAt
-laid-before l i x ys h =
-    let p = take (i + 1) l in
-    let r = drop (i + 1 + length ys) l in
-    let n : length p ≡ i + 1 = length-take-le (i + 1) l (omega arith) in
-    let front : take i (p ++ (ys ++ r)) ≡ take i l = take-append-le i p (ys ++ r) (omega arith) ∙ take-take i (i + 1) l (omega arith) in
-    let back : drop (i + 1) (p ++ (ys ++ r)) ≡ ys ++ r = drop-at p (ys ++ r) (i + 1) n in
-    let rest : i + length (x ∷ ys) ≡ i + 1 + length ys = omega arith in
-    rw (append-assoc p ys r, front, back, rest, append-assoc (take i l) (x ∷ ys) r) (append-assoc (take i l) (x ∷ []) (ys ++ r))
+use Rattle.numbers.proofs.Laid.{laid-none, laid-before, length-laid}
+use Rattle.numbers.specs.Decimal.{digit, digits, decimal}
+use Rattle.numbers.proofs.Digits.{last-digit, more-digits, more-length, tenth-below, some}
 
 -- what is left of n are the digits of rest, which end at the place last
 pub record Spelling (n at : ℕ) (entry out : List ℕ) (last rest : ℕ) : Type 0 where
@@ -67,7 +54,7 @@ module _ (n at : ℕ) (entry : List ℕ) where
         parts = sym (append-assoc (digits (suc m) (rest / 10)) (d ∷ []) tail) ∙ ap (λ (x : List ℕ). x ++ tail) (sym (more-digits (suc m) rest t)) ∙ parts;
         here = omega arith;
         fits = omega arith;
-        so = e ∙ rw (so, q) (laid-before entry last d tail fits);
+        so = e ∙ rw (so, q) (laid-before entry last (d ∷ []) tail (last + 1) refl fits);
       }
 
   -- one digit more
@@ -91,7 +78,7 @@ module _ (n at : ℕ) (entry : List ℕ) where
       let all : digit rest ∷ s .tail ≡ decimal n = ap (λ (x : List ℕ). x ++ s .tail) (sym one) ∙ s .parts in
       let len : length (digits (suc (s .most)) rest) ≡ 1 = ap length one in
       let q : last ≡ at = omega (arith, s .here) in
-      rw (e, s .so, laid-before entry last (digit rest) (s .tail) (s .fits), all, q)
+      rw (e, s .so, laid-before entry last (digit rest ∷ []) (s .tail) (last + 1) refl (s .fits), all, q)
 
 -- the digits counted, and those of what is left
 pub record Counting (n count rest : ℕ) : Type 0 where

@@ -1,7 +1,7 @@
 -- Two tests, each a bound of the digits.
 use borrow.Author.Tests.{lt-leb, le-leb}
-use Rattle.text.proofs.numbers_in.is_digit.Statement.{statement}
-use Rattle.text.proofs.numbers_in.is_digit.Tie as tie
+use Rattle.numbers.proofs.decimal.is_digit.Statement.{statement}
+use Rattle.numbers.proofs.decimal.is_digit.Tie as tie
 
 returns : tie.Need-returns
 returns c = simp (lt-leb _ _ (c .if1 .taken))

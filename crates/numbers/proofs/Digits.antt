@@ -7,7 +7,7 @@ use native.Mathlib.Decide.{decLt}
 use native.Mathlib.Omega.{arith}
 use borrow.Author.Tests.{lt-ltb, le-ltb}
 use lib.ListN.{length, length-append}
-use Rattle.lines.specs.Lines.{digit, digits, decimal}
+use Rattle.numbers.specs.Decimal.{digit, digits, decimal}
 
 pub last-digit : (most n : ℕ) → n < 10 → digits (suc most) n ≡ digit n ∷ []
 unfolding digits

@@ -1,15 +1,15 @@
 -- `lay_digits` meets its contract: each turn lays one digit in front of those that are laid.
 use mathlib.Core.Path.{ap, _∙_}
 use lib.ListN.{length}
 use Rattle.numbers.proofs.Laid.{length-laid}
-use Rattle.lines.specs.Lines.{decimal}
+use Rattle.numbers.specs.Decimal.{decimal}
 use Prim.Native.Nat.{_<_}
 use native.Mathlib.Omega.{arith}
 use denote.Ref.{now}
-use Rattle.lines.proofs.Digits.{some-digit}
-use Rattle.lines.proofs.Spelling.{Spelling, start, kept, turn, front, end}
-use Rattle.lines.proofs.number.lay_digits.Statement.{statement}
-use Rattle.lines.proofs.number.lay_digits.Tie as tie
+use Rattle.numbers.proofs.Digits.{some-digit}
+use Rattle.numbers.proofs.Spelling.{Spelling, start, kept, turn, front, end}
+use Rattle.numbers.proofs.decimal.lay_digits.Statement.{statement}
+use Rattle.numbers.proofs.decimal.lay_digits.Tie as tie
 
 abbrev Inv-loop : tie.InvT-loop
 Inv-loop out₀ at count n last₀ rest₀ out last rest = Spelling n at out₀ out last rest

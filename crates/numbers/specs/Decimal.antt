@@ -1,0 +1,33 @@
+-- Numbers in decimal, in ASCII: how one is spelled, and what digits come to.
+use Prim.Native.Nat.{ℕ, zero, suc, _+_, _*_, _-_, _/_, _%_}
+use mathlib.Core.Bool.{Bool, true, _&&_}
+use mathlib.Core.List.{List, [], _∷_, _++_}
+use lib.Dec.{leb, ltb}
+use Rattle.numbers.specs.Choice.{pick}
+
+-- ---- spelled
+abbrev pub digit : ℕ → ℕ
+digit d = 48 + d
+
+-- at most so many digits of a number, the most significant first and no zero in front
+unfoldable pub digits : ℕ → ℕ → List ℕ
+digits zero n = []
+digits (suc most) n = pick (ltb n 10) (digit n ∷ []) (digits most (n / 10) ++ (digit (n % 10) ∷ []))
+
+-- all the digits of a number: one of 64 bits has at most 20
+unfoldable pub decimal : ℕ → List ℕ
+decimal n = digits 20 n
+
+-- ---- read
+-- 0 to 9
+abbrev pub isDigit : ℕ → Bool
+isDigit b = leb 48 b && leb b 57
+
+unfoldable pub allDigits : List ℕ → Bool
+allDigits [] = true
+allDigits (b ∷ s) = isDigit b && allDigits s
+
+-- the number in decimal that digits make after a number that is read already
+unfoldable pub numberFrom : ℕ → List ℕ → ℕ
+numberFrom n [] = n
+numberFrom n (b ∷ s) = numberFrom (n * 10 + (b - 48)) s
