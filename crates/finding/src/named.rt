@@ -106,7 +106,8 @@ pub enum Finding {
     Told(Told),
     NotAfter(Last),
     Room,
-    Columns,
+    // No offer gives it.
+    OtherCall,
 }
 
 pub struct Named {
@@ -398,7 +399,7 @@ fn finding_of(day: Day, s: &[u8], why: Why, place: usize, at: usize, before: usi
         Why::Room => Finding::Room,
         Why::BlockOrder => Finding::NotAfter(last),
         Why::EndCount => tell(s, at, Field::Groups, Held::Accepted(day.groups)),
-        Why::Columns => Finding::Columns,
+        Why::Columns => Finding::OtherCall,
         Why::PositionAhead => positions_finding(s, at, d),
         Why::MarginAhead => margins_finding(s, at, d),
         Why::WorkingCrossed => working_finding(s, at),

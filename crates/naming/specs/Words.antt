@@ -214,9 +214,9 @@ firstPhrase = 110 ∷ 111 ∷ 116 ∷ 32 ∷ 97 ∷ 102 ∷ 116 ∷ 101 ∷ 114 
 abbrev pub roomPhrase : List ℕ
 roomPhrase = 114 ∷ 111 ∷ 111 ∷ 109 ∷ 32 ∷ 116 ∷ 111 ∷ 111 ∷ 32 ∷ 115 ∷ 109 ∷ 97 ∷ 108 ∷ 108 ∷ []
 
--- `columns of unequal length`
-abbrev pub columnsPhrase : List ℕ
-columnsPhrase = 99 ∷ 111 ∷ 108 ∷ 117 ∷ 109 ∷ 110 ∷ 115 ∷ 32 ∷ 111 ∷ 102 ∷ 32 ∷ 117 ∷ 110 ∷ 101 ∷ 113 ∷ 117 ∷ 97 ∷ 108 ∷ 32 ∷ 108 ∷ 101 ∷ 110 ∷ 103 ∷ 116 ∷ 104 ∷ []
+-- `a refusal of another call`
+abbrev pub otherCallPhrase : List ℕ
+otherCallPhrase = 97 ∷ 32 ∷ 114 ∷ 101 ∷ 102 ∷ 117 ∷ 115 ∷ 97 ∷ 108 ∷ 32 ∷ 111 ∷ 102 ∷ 32 ∷ 97 ∷ 110 ∷ 111 ∷ 116 ∷ 104 ∷ 101 ∷ 114 ∷ 32 ∷ 99 ∷ 97 ∷ 108 ∷ 108 ∷ []
 
 -- a line feed
 abbrev pub feed : List ℕ
@@ -299,7 +299,7 @@ findingWords (N.CutShort n) = numbered cutWord n
 findingWords (N.Told t) = toldWords t
 findingWords (N.NotAfter last) = lastWords last
 findingWords N.Room = roomPhrase
-findingWords N.Columns = columnsPhrase
+findingWords N.OtherCall = otherCallPhrase
 
 unfoldable pub nameLine : Named → List ℕ
 nameLine n = ((subjectWords (n .subject) ++ colonWord) ++ findingWords (n .finding)) ++ feed

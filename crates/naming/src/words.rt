@@ -210,7 +210,7 @@ fn lay_finding(out: &mut [u8], at: usize, finding: Finding) -> usize
         Finding::Told(t) => lay_told(out, at, t),
         Finding::NotAfter(last) => lay_last(out, at, last),
         Finding::Room => lay_word(out, at, b"room too small"),
-        Finding::Columns => lay_word(out, at, b"columns of unequal length"),
+        Finding::OtherCall => lay_word(out, at, b"a refusal of another call"),
     }
 }
 
