@@ -1,5 +1,5 @@
 #!/usr/bin/env python3
-"""A few frames of docs/PROBE.md and the replies that document 01 gives: crates/probe/stdin and stdout.
+"""A few frames of docs/PROBE.md and the replies that documents 01 and 02 give: crates/probe/stdin and stdout.
 
 usage: tests/frames.py --write    writes the two files
        tests/frames.py --check    tells whether they are as it would write them
@@ -11,7 +11,10 @@ import sys
 
 PROBE = pathlib.Path(__file__).resolve().parent.parent / "crates" / "probe"
 NOT_FITTING = b""
-UNTOUCHED = [struct.unpack(">i", b"\xa5" * 4)[0]]
+FILLER = b"\xa5"
+UNTOUCHED = [struct.unpack(">i", FILLER * 4)[0]]
+# Number, quarter, N, M- and M+ of a line of a partner's export.
+VALUES = struct.Struct(">HBiii")
 
 
 def i32s(*numbers):
@@ -35,19 +38,54 @@ def accepted(verdict, *numbers):
     return reply(bytes([0, verdict]) + i32s(*numbers))
 
 
+def refusal(number, place):
+    return struct.pack(">BBI", 1, number, place)
+
+
 def refused(number, place, written=3):
-    return reply(struct.pack(">BBI", 1, number, place) + i32s(*UNTOUCHED * (6 + written)))
+    return reply(refusal(number, place) + i32s(*UNTOUCHED * (6 + written)))
+
+
+def read_line(data):
+    return frame(10, data)
+
+
+def write_line(values, room):
+    return frame(11, VALUES.pack(*values) + struct.pack(">H", room))
+
+
+def line_read(used, values):
+    return reply(struct.pack(">BI", 0, used) + VALUES.pack(*values))
+
+
+def line_written(line, room):
+    return reply(struct.pack(">BI", 0, len(line)) + line.ljust(room, FILLER))
+
+
+def line_refused(number, place, room=0):
+    return reply(refusal(number, place) + FILLER * room)
 
 
 # The day list's three units: P, S1, S2, S3 and balance, then n1, n2 and n3.
 UNITS = ([5000, 3000, 9000], [-4000, -2000, -7999], [0, 2400, 7000], [4500, 6000, 9500])
 RIGHT = accepted(5, -13999, 16500, 13999, 14399, -400, 4500, 3000, 9000, 2999, 2000, 9000, 2999, 2400, 9000)
+# The first of the units as a line of a partner's export.
+LINE, LINE_VALUES = b"11;40;5,000;I;0,000;I;4,500;I\n", (11, 40, 5000, 0, 4500)
 CASES = [
     (columns(*UNITS, [0, 0, 1]), RIGHT),
     (columns(*UNITS, [0, 2, 1]), refused(7, 1)),
     (columns(*UNITS, [0, 0, 1], written=4), refused(15, 0, written=4)),
     (frame(1, bytes(9)), reply(NOT_FITTING)),
     (frame(0, b"body"), reply(NOT_FITTING)),
+    (read_line(LINE + b"rest"), line_read(30, LINE_VALUES)),
+    (read_line(b""), line_refused(20, 0)),
+    (read_line(b"12;0;0,000;P;2,400;P;6,000;I\n"), line_refused(20, 11)),
+    (read_line(b"7;" + b"9" * 30 + b";1,000;I;0,000;I;1,000;I\n"), line_refused(4, 2)),
+    (read_line(b"7;5;1000,001;I;0,000;I;1,000;I\n"), line_refused(8, 4)),
+    (read_line(b"7;5;1,000;I;2,000;I;1,999;I\n"), line_refused(9, 20)),
+    (write_line(LINE_VALUES, 32), line_written(LINE, 32)),
+    (write_line(LINE_VALUES, 29), line_refused(12, 0, room=29)),
+    (frame(11, VALUES.pack(*LINE_VALUES) + b"\0"), reply(NOT_FITTING)),
     (columns(*UNITS, [0, 0, 1])[:-1], b""),
 ]
 

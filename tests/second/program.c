@@ -481,6 +481,44 @@ static void probe_c_call(body *b)
     give_bytes(room, room_len);
 }
 
+static void probe_read_line(body *b)
+{
+    const size_t len = b->left;
+    const uint8_t *bytes = take_bytes(b, len);
+    if (!whole(b))
+        return;
+
+    second_line line;
+    size_t used;
+    if (give_answer(second_read_line(bytes, len, &line, &used))) {
+        give_u32((uint32_t)used);
+        give_u16(line.number);
+        give_u8(line.quarter);
+        give_i32(line.n);
+        give_i32(line.m_down);
+        give_i32(line.m_up);
+    }
+}
+
+static void probe_write_line(body *b)
+{
+    second_line line;
+    line.number = take_u16(b);
+    line.quarter = take_u8(b);
+    line.n = signed32(take_u32(b));
+    line.m_down = signed32(take_u32(b));
+    line.m_up = signed32(take_u32(b));
+    const size_t room_len = take_room_length(b);
+    if (!whole(b))
+        return;
+
+    uint8_t *room = lend_room(room_len);
+    size_t written = 0;
+    const second_refusal refusal = second_write_line(&line, room, room_len, &written);
+    give_written(refusal, written);
+    give_bytes(room, room_len);
+}
+
 /* One reply frame for one frame; a body that does not fit its call, or a call
  * that does not exist, gets a reply frame of length 0. */
 static void answer_frame(uint8_t call, const uint8_t *bytes, size_t len)
@@ -496,6 +534,8 @@ static void answer_frame(uint8_t call, const uint8_t *bytes, size_t len)
         probe_next,
         probe_walker,
         probe_c_call,
+        probe_read_line,
+        probe_write_line,
     };
     body b = {bytes, len, len <= BODY_MAX};
 

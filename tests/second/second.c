@@ -1,10 +1,13 @@
 /* The ways in of document 01, with requests 2 ("late or early"), 3 ("feasibility
- * intervals of their own"), 4 ("implicit nominations we missed") and 6 ("the small
- * engine always loses the odd kWh") of document 02. The parts follow the sections of
- * 01: quantities and signs, the steps, house records, the table of the day, ways in. */
+ * intervals of their own"), 4 ("implicit nominations we missed"), 6 ("the small
+ * engine always loses the odd kWh") and 7 ("read our partners' export") of document
+ * 02. The parts follow the sections of 01: quantities and signs, the steps, house
+ * records, the table of the day, ways in; a partner's lines stand behind the writers. */
 #include "second.h"
 
 #include <stdbool.h>
+#include <stdio.h>
+#include <stdlib.h>
 #include <string.h>
 
 /* ---- Numbers given back ------------------------------------------------- */
@@ -27,7 +30,8 @@ enum {
     UNEQUAL_COLUMNS = 15,
     POSITION_AHEAD = 17, /* 16 belongs to a request of 02 that is not in here */
     MARGINS_AHEAD = 18,
-    WORKING_MARGINS_CROSSED = 19
+    WORKING_MARGINS_CROSSED = 19,
+    MALFORMED_LINE = 20
 };
 
 static const second_refusal accepted = {0, 0};
@@ -744,6 +748,9 @@ second_refusal second_check_block(const second_day *day, const uint8_t *bytes, s
 
 /* ---- Ways in: writers --------------------------------------------------- */
 
+/* The limit of a quarter where no day is at hand. */
+enum { QUARTERS_MOST = 100 };
+
 /* Order: 3, 12. */
 second_refusal second_write_day(uint16_t delivery_day, uint8_t quarters, uint32_t run,
                                 uint16_t position_age_limit, uint16_t margin_age_limit,
@@ -789,7 +796,6 @@ second_refusal second_write_block(second_key key, uint32_t positions_made,
                                   const second_unit_columns *units, uint8_t *room,
                                   size_t room_len, size_t *written)
 {
-    enum { WRITER_QUARTERS = 100 };
     const size_t count = units->number.len;
 
     if (units->class_of.len != count || units->coincide.len != count ||
@@ -799,7 +805,7 @@ second_refusal second_write_block(second_key key, uint32_t positions_made,
         units->kind.len != count || units->lower.len != count ||
         units->upper.len != count)
         return refuse(UNEQUAL_COLUMNS, 0);
-    if (key.quarter >= WRITER_QUARTERS)
+    if (key.quarter >= QUARTERS_MOST)
         return refuse(BAD_QUARTER, 0);
     if (!count_permitted(count))
         return refuse(BAD_UNIT_COUNT, 0);
@@ -841,6 +847,179 @@ second_refusal second_write_end(uint32_t count, uint8_t *room, size_t room_len,
     room[0] = SECOND_KIND_END;
     put_u32(room + END_AT_COUNT, count);
     *written = SECOND_END_LENGTH;
+    return accepted;
+}
+
+/* ---- A partner's export (request 7) ------------------------------------- */
+
+enum { AMOUNTS = 3, KWH_IN_MWH = 1000 }; /* N, M- and M+, in this order */
+
+/* Bytes read from the front; `right` is false once something else stood there than
+ * had to. */
+typedef struct {
+    const uint8_t *bytes;
+    size_t len;
+    size_t at;
+    bool right;
+} text;
+
+/* The byte that comes next is read if it is the one asked for. */
+static bool comes(text *t, uint8_t byte)
+{
+    if (t->at == t->len || t->bytes[t->at] != byte)
+        return false;
+    t->at++;
+    return true;
+}
+
+static void must_come(text *t, uint8_t byte)
+{
+    t->right = comes(t, byte) && t->right;
+}
+
+static bool digit_comes(const text *t)
+{
+    return t->at < t->len && t->bytes[t->at] >= '0' && t->bytes[t->at] <= '9';
+}
+
+static uint32_t next_digit(text *t)
+{
+    return (uint32_t)(t->bytes[t->at++] - '0');
+}
+
+/* Past every limit of a line, and as kWh still within 32 bits: a larger numeral,
+ * however long, counts as this one. */
+enum { NUMERAL_TOP = 1000000 };
+
+/* The digits of a number or of a whole part: one at least, and a 0 opens them only
+ * when it is the whole of them, so that `00` and `01` are no spelling of 0 and 1. */
+static uint32_t take_numeral(text *t)
+{
+    const size_t start = t->at;
+    uint32_t value = 0;
+
+    while (digit_comes(t)) {
+        value = value * 10 + next_digit(t);
+        if (value > NUMERAL_TOP)
+            value = NUMERAL_TOP;
+    }
+    const size_t digits = t->at - start;
+    if (digits == 0 || (digits > 1 && t->bytes[start] == '0'))
+        t->right = false;
+    return value;
+}
+
+/* MWh with a comma and exactly three decimals, as kWh. A fourth decimal is seen by the
+ * `;` that does not come. */
+static int32_t take_amount(text *t)
+{
+    const uint32_t whole = take_numeral(t);
+    uint32_t decimals = 0;
+
+    must_come(t, ',');
+    for (int i = 0; i < 3; i++) {
+        if (!digit_comes(t)) {
+            t->right = false;
+            break;
+        }
+        decimals = decimals * 10 + next_digit(t);
+    }
+    return (int32_t)(whole * KWH_IN_MWH + decimals);
+}
+
+/* An amount as a quantity by its letter: `I` is injection, `P` withdrawal, and zero is
+ * always `I`. */
+static int32_t take_letter(text *t, int32_t amount)
+{
+    if (amount != 0 && comes(t, 'P'))
+        return -amount;
+    must_come(t, 'I');
+    return amount;
+}
+
+/* The order is 20 for all eight fields from left to right, then 4, 8, 9. Each has the
+ * place where its field starts; that of 8 and 9 is the amount's, not its letter's. What
+ * must follow a field belongs to it, so that a line which ends behind a `;` is wrong in
+ * the field that should start there. Only amounts and quarters are named as too large,
+ * so that a number above 65535 is malformed. */
+second_refusal second_read_line(const uint8_t *bytes, size_t len, second_line *line,
+                                size_t *used)
+{
+    text t = {bytes, len, 0, true};
+    size_t amount_at[AMOUNTS];
+    int32_t quantity[AMOUNTS];
+
+    const uint32_t number = take_numeral(&t);
+    must_come(&t, ';');
+    if (!t.right || number > UINT16_MAX)
+        return refuse(MALFORMED_LINE, 0);
+
+    const size_t quarter_at = t.at;
+    const uint32_t quarter = take_numeral(&t);
+    must_come(&t, ';');
+    if (!t.right)
+        return refuse(MALFORMED_LINE, quarter_at);
+
+    for (size_t i = 0; i < AMOUNTS; i++) {
+        amount_at[i] = t.at;
+        const int32_t amount = take_amount(&t);
+        must_come(&t, ';');
+        if (!t.right)
+            return refuse(MALFORMED_LINE, amount_at[i]);
+
+        const size_t letter_at = t.at;
+        quantity[i] = take_letter(&t, amount);
+        must_come(&t, i + 1 < AMOUNTS ? ';' : '\n');
+        if (!t.right)
+            return refuse(MALFORMED_LINE, letter_at);
+    }
+
+    if (quarter >= QUARTERS_MOST)
+        return refuse(BAD_QUARTER, quarter_at);
+    for (size_t i = 0; i < AMOUNTS; i++) {
+        if (!in_range(quantity[i]))
+            return refuse(OUT_OF_RANGE, amount_at[i]);
+    }
+    if (quantity[1] > quantity[2])
+        return refuse(ENDS_CROSSED, amount_at[2]);
+
+    line->number = (uint16_t)number;
+    line->quarter = (uint8_t)quarter;
+    line->n = quantity[0];
+    line->m_down = quantity[1];
+    line->m_up = quantity[2];
+    *used = t.at;
+    return accepted;
+}
+
+static char letter_of(int32_t quantity)
+{
+    return quantity < 0 ? 'P' : 'I';
+}
+
+/* Order: 4, 8, 9, 12. */
+second_refusal second_write_line(const second_line *line, uint8_t *room, size_t room_len,
+                                 size_t *written)
+{
+    if (line->quarter >= QUARTERS_MOST)
+        return refuse(BAD_QUARTER, 0);
+    if (!in_range(line->n) || !in_range(line->m_down) || !in_range(line->m_up))
+        return refuse(OUT_OF_RANGE, 0);
+    if (line->m_down > line->m_up)
+        return refuse(ENDS_CROSSED, 0);
+
+    const div_t n = div(abs(line->n), KWH_IN_MWH);
+    const div_t m_down = div(abs(line->m_down), KWH_IN_MWH);
+    const div_t m_up = div(abs(line->m_up), KWH_IN_MWH);
+    char bytes[SECOND_LINE_MAX + 1]; /* and the zero that ends a string */
+    const size_t length = (size_t)snprintf(
+        bytes, sizeof bytes, "%d;%d;%d,%03d;%c;%d,%03d;%c;%d,%03d;%c\n", line->number,
+        line->quarter, n.quot, n.rem, letter_of(line->n), m_down.quot, m_down.rem,
+        letter_of(line->m_down), m_up.quot, m_up.rem, letter_of(line->m_up));
+    if (room_len < length)
+        return refuse(ROOM_SHORT, 0);
+    memcpy(room, bytes, length);
+    *written = length;
     return accepted;
 }
 

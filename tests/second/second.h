@@ -1,5 +1,5 @@
 /* The second program: the ways in of document 01 ("Ways in"), with requests 2, 3,
- * 4 and 6 of document 02 in place, written from the documents alone so that the
+ * 4, 6 and 7 of document 02 in place, written from the documents alone so that the
  * proved product can be compared with it in bulk.
  * This header is what a program that links second.o may use. */
 #ifndef SECOND_H
@@ -135,6 +135,25 @@ second_refusal second_write_block(second_key key, uint32_t positions_made,
 
 second_refusal second_write_end(uint32_t count, uint8_t *room, size_t room_len,
                                 size_t *written);
+
+/* One line of a partner's export: one unit in one quarter, in kWh. */
+typedef struct {
+    uint16_t number;
+    uint8_t quarter;
+    int32_t n, m_down, m_up;
+} second_line;
+
+/* The longest line is `65535;99;1000,000;P;1000,000;P;1000,000;P` and its line feed. */
+enum { SECOND_LINE_MAX = 42 };
+
+/* Reads the line at the front of the bytes; those after its line feed are not read.
+ * `line` and `used` change only when it is accepted. */
+second_refusal second_read_line(const uint8_t *bytes, size_t len, second_line *line,
+                                size_t *used);
+
+/* Writes one, with its line feed. */
+second_refusal second_write_line(const second_line *line, uint8_t *room, size_t room_len,
+                                 size_t *written);
 
 /* A walk over a day that lies whole in lent memory, by slice and place. */
 typedef enum { SECOND_EXTENT = 0, SECOND_REFUSED = 1, SECOND_DONE = 2 } second_outcome;
