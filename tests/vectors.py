@@ -253,6 +253,24 @@ def c_call_check(v, reply):
     same_room(reply.rest(), v["room"], bytes.fromhex(v["expect"]["written"]))
 
 
+def read_line_frame(v):
+    return frame(10, bytes.fromhex(v["data"]))
+
+
+def read_line_check(v, reply):
+    expect = v["expect"]
+    refused, values = reply.answer("IHBiii")
+    same("refusal", refused, expect.get("refused"))
+    if not refused:
+        names = ["used", "number", "quarter", "N", "mdown", "mup"]
+        same("line", dict(zip(names, values)), {n: expect[n] for n in names})
+
+
+def write_line_frame(v):
+    return frame(11, struct.pack(">HBiii", v["number"], v["quarter"], v["N"], v["mdown"],
+                                 v["mup"]) + room_field(v["room_len"]))
+
+
 CALLS = {
     "columns": (columns_frame, columns_check),
     "c_call": (c_call_frame, c_call_check),
@@ -261,6 +279,8 @@ CALLS = {
     "write_end": (write_end_frame, write_check),
     "walk": (walk_frame, walk_check),
     "walk_at": (walk_at_frame, walk_at_check),
+    "read_line": (read_line_frame, read_line_check),
+    "write_line": (write_line_frame, write_check),
 }
 
 
