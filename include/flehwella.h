@@ -21,7 +21,7 @@ extern "C" {
 #endif
 
 /* The version of this header and of the library it came with. */
-#define FLEHWELLA_VERSION "0.5.0"
+#define FLEHWELLA_VERSION "0.6.0"
 
 /* Lengths in bytes of what goes in: a day record; a group record and its unit records, which together are a block. A unit
  * record is of kind 03h, or of kind 04h: that has the fields of 03h and then the two ends of a feasibility interval, and its
@@ -88,7 +88,9 @@ enum flehwella_refusal {
     /* margins made after the run */
     FLEHWELLA_MARGIN_AHEAD = 18,
     /* the interval leaves no room between the margins */
-    FLEHWELLA_WORKING_CROSSED = 19
+    FLEHWELLA_WORKING_CROSSED = 19,
+    /* a line of a partner's export that is not in its form */
+    FLEHWELLA_LINE = 20
 };
 /* */
 

@@ -196,6 +196,7 @@ findingOf day s W.Columns place at before = N.OtherCall
 findingOf day s W.PositionAhead place at before = positionsFinding s at (day .«record»)
 findingOf day s W.MarginAhead place at before = marginsFinding s at (day .«record»)
 findingOf day s W.WorkingCrossed place at before = workingFinding s at
+findingOf day s W.Line place at before = N.OtherCall
 
 -- the refusal of bytes that were offered to a day
 unfoldable pub namedOf : Day → List ℕ → Refusal → Named

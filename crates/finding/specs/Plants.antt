@@ -44,6 +44,7 @@ ofUnit W.Columns = false
 ofUnit W.PositionAhead = false
 ofUnit W.MarginAhead = true
 ofUnit W.WorkingCrossed = true
+ofUnit W.Line = false
 
 -- the field told, and what it is held against: the unit's record begins at a place, and the one before it at another
 abbrev pub faultField : List ℕ → ℕ → Fault → Field

@@ -7,7 +7,6 @@ ghost use Rattle.finding.specs.Inner.{Near};
 ghost use Rattle.finding.specs.Spots.{recordAt};
 ghost use Rattle.finding.specs.Naming.{unitFieldAt, unitValueAt, valueIn, roleSubject, isTaken, kindSubject, frontSubject, unitSubject, subjectOf, flagHeld, ageHeld, toldOf};
 ghost use Rattle.finding.specs.Naming.{numberFinding, flagFinding, rangeFinding, leastFinding, mostFinding, crossedFinding, workingFinding, positionsFinding, marginsFinding, findingOf, namedOf};
-use crate::reading::byte;
 use crate::reading::half;
 use crate::reading::signed;
 use crate::reading::word;
@@ -18,6 +17,7 @@ use crate::spot::is_group;
 use crate::spot::record_at;
 use crate::spot::spot_of;
 use day::value::Day;
+use numbers::bytes::byte;
 use records::day::DayRecord;
 use records::end::EndRecord;
 use records::group::GroupRecord;
@@ -403,6 +403,7 @@ fn finding_of(day: Day, s: &[u8], why: Why, place: usize, at: usize, before: usi
         Why::PositionAhead => positions_finding(s, at, d),
         Why::MarginAhead => margins_finding(s, at, d),
         Why::WorkingCrossed => working_finding(s, at),
+        Why::Line => Finding::OtherCall,
     }
 }
 

@@ -1,14 +1,9 @@
 // Numbers by the layouts, wherever they stand: a byte past the end counts as 0, as in the layouts.
 ghost use mathlib.Core.Path.{_≡_};
 ghost use Prim.Native.Nat.{_+_, _<_};
-ghost use Rattle.numbers.specs.Bytes.{byteAt, be16, be32, signed32};
+ghost use Rattle.numbers.specs.Bytes.{be16, be32, signed32};
+use numbers::bytes::byte;
 use numbers::signed::from_bits;
-
-pub fn byte(s: &[u8], at: usize) -> u8
-    ensures { λ r. ⌜ r ≡ byteAt (now (s .entry)) at ⌝ }
-{
-    if at < s.len() { s[at] } else { 0 }
-}
 
 pub fn half(s: &[u8], at: usize) -> u16
     requires { ⌜ at < 65536 ⌝ }

@@ -1,6 +1,7 @@
 // What replies are made of: each function lays something from a place on and gives the place after it. What does not fit is not laid.
 use numbers::bytes::lay_u32;
 use numbers::signed::to_bits;
+use terms::refusal::Answer;
 use terms::refusal::Refusal;
 
 // No reply is longer.
@@ -69,4 +70,12 @@ pub fn lay_refusal(reply: &mut [u8; LONGEST], at: usize, r: Refusal) -> usize {
     let number = lay_byte(reply, at, 1);
     let place = lay_byte(reply, number, why.number());
     lay_number(reply, place, short(r.place))
+}
+
+// The answer of a writer.
+pub fn lay_written(reply: &mut [u8; LONGEST], a: Answer) -> usize {
+    match a {
+        Answer::Is(n) => lay_accepted(reply, &[short(n)]),
+        Answer::Refused(r) => lay_refusal(reply, 0, r),
+    }
 }

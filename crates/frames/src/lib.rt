@@ -4,6 +4,7 @@ ghost use Rattle.frames.specs.Frames.{Answered};
 mod days;
 mod groups;
 mod laying;
+mod partners;
 mod rooms;
 mod steps;
 mod writes;
@@ -23,7 +24,8 @@ fn replied(call: u8, body: &[u8], reply: &mut [u8; LONGEST]) -> usize {
         3 => days::checked(body, reply),
         7 => steps::step(body, reply),
         8 => steps::walker(body, reply),
-        2 | 4 | 5 | 6 | 9 => rooms::lent(call, body, reply),
+        10 => partners::read(body, reply),
+        2 | 4 | 5 | 6 | 9 | 11 => rooms::lent(call, body, reply),
         _ => 0,
     }
 }

@@ -1,8 +1,9 @@
-// Calls that are lent room, 2, 4, 5, 6 and 9: their answer, and then the whole of the room.
+// Calls that are lent room, 2, 4, 5, 6, 9 and 11: their answer, and then the whole of the room.
 ghost use Prim.Native.Nat.{_≤_};
 use crate::days::offered;
 use crate::laying::LONGEST;
 use crate::laying::lay_bytes;
+use crate::partners;
 use crate::writes;
 use numbers::bytes::u16_at;
 
@@ -21,6 +22,7 @@ fn length_place(call: u8) -> usize
         4 => 11,
         5 => 20,
         6 => 4,
+        11 => 15,
         _ => 3,
     }
 }
@@ -31,6 +33,7 @@ fn answered(call: u8, body: &[u8], room: &mut [u8], reply: &mut [u8; LONGEST]) -
         4 => writes::day(body, room, reply),
         5 => writes::block(body, room, reply),
         6 => writes::end(body, room, reply),
+        11 => partners::written(body, room, reply),
         _ => writes::checked(body, room, reply),
     }
 }

@@ -1,9 +1,7 @@
 // Calls 4, 5, 6 and 9: a day record, a block and an end record in lent room, and the C call.
 use crate::laying::LONGEST;
-use crate::laying::lay_accepted;
 use crate::laying::lay_number;
-use crate::laying::lay_refusal;
-use crate::laying::short;
+use crate::laying::lay_written;
 use columns::blocks::Written;
 use columns::blocks::hand_over;
 use desk::flehwella_check;
@@ -11,16 +9,8 @@ use numbers::bytes::u16_at;
 use numbers::bytes::u32_at;
 use numbers::signed::to_bits;
 use records::day::DayRecord;
-use terms::refusal::Answer;
 use writers::single::write_day;
 use writers::single::write_end;
-
-fn lay_written(reply: &mut [u8; LONGEST], a: Answer) -> usize {
-    match a {
-        Answer::Is(n) => lay_accepted(reply, &[short(n)]),
-        Answer::Refused(r) => lay_refusal(reply, 0, r),
-    }
-}
 
 pub fn day(body: &[u8], room: &mut [u8], reply: &mut [u8; LONGEST]) -> usize {
     if body.len() != 13 {

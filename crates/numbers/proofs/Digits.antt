@@ -104,3 +104,17 @@ some-digit n = some 19 n
 pub no-more : (k n : ℕ) → n < 10 ^ suc k → length (decimal n) ≤ suc k
 unfolding decimal
 no-more k n h = few k 20 n h
+
+digits-few : (most n : ℕ) → length (digits most n) ≤ most
+unfolding digits
+digits-few zero n = omega arith
+digits-few (suc most) n = go (decLt n 10) (digits-few most (n / 10))
+  where
+    go : Dec (n < 10) → length (digits most (n / 10)) ≤ most → length (digits (suc most) n) ≤ suc most
+    go (yes h) rest = rw (last-digit most n h) (omega arith)
+    go (no h) rest = omega (arith, more-length most n (omega arith))
+
+-- whatever the number is
+pub decimal-few : (n : ℕ) → length (decimal n) ≤ 20
+unfolding decimal
+decimal-few n = digits-few 20 n

@@ -9,7 +9,7 @@ use Rattle.numbers.specs.Choice.{pick}
 abbrev pub digit : ℕ → ℕ
 digit d = 48 + d
 
--- at most so many digits of a number, the most significant first and no zero in front
+-- the last digits of a number, at most so many, the most significant first; where all of them fit, no zero stands in front of another digit
 unfoldable pub digits : ℕ → ℕ → List ℕ
 digits zero n = []
 digits (suc most) n = pick (ltb n 10) (digit n ∷ []) (digits most (n / 10) ++ (digit (n % 10) ∷ []))
@@ -22,6 +22,10 @@ decimal n = digits 20 n
 -- 0 to 9
 abbrev pub isDigit : ℕ → Bool
 isDigit b = leb 48 b && leb b 57
+
+-- the number of a digit; of any other byte one above 9, as 32 bits wrap
+abbrev pub digitIn : ℕ → ℕ
+digitIn b = pick (leb 48 b) (b - 48) (b + 4294967248)
 
 unfoldable pub allDigits : List ℕ → Bool
 allDigits [] = true

@@ -8,6 +8,13 @@ ghost use Rattle.numbers.specs.Inner.{Field};
 use crate::signed::from_bits;
 use crate::signed::to_bits;
 
+// The byte at a place, 0 past the end.
+pub fn byte(s: &[u8], at: usize) -> u8
+    ensures { λ r. ⌜ r ≡ byteAt (now (s .entry)) at ⌝ }
+{
+    if at < s.len() { s[at] } else { 0 }
+}
+
 // A byte, widened so that its callers know it is below 256.
 fn byte_at(s: &[u8], at: usize) -> u32
     requires { ⌜ at < length (now s) ⌝ }

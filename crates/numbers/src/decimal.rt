@@ -4,7 +4,7 @@ ghost use mathlib.Core.Bool.{true};
 ghost use Prim.Native.Nat.{_+_, _-_, _≤_};
 ghost use lib.ListN.{length};
 ghost use Rattle.numbers.specs.Bytes.{laidAt};
-ghost use Rattle.numbers.specs.Decimal.{isDigit, decimal};
+ghost use Rattle.numbers.specs.Decimal.{isDigit, digitIn, decimal};
 use crate::bytes::lay_u8;
 
 // The digit 0, in ASCII.
@@ -24,6 +24,13 @@ pub fn digit_value(byte: u8) -> u64
     ensures { λ r. ⌜ (r ≡ byte - 48) × (r ≤ 9) ⌝ }
 {
     (byte - b'0') as u64
+}
+
+// The number of a digit; of any other byte a number above 9, so that one comparison tells both.
+pub fn digit_of(byte: u8) -> u32
+    ensures { λ r. ⌜ r ≡ digitIn byte ⌝ }
+{
+    std::num::wrapping_sub_u32(byte as u32, ZERO as u32)
 }
 
 // How many digits a number of 64 bits has.

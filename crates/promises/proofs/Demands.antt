@@ -45,6 +45,12 @@ use Rattle.desk.specs.Header.{Replied, CallTaken}
 use Rattle.desk.proofs.Told.{reply-in, call-fair}
 use Rattle.listing.specs.Whole.{dayList, Steps}
 use Rattle.listing.proofs.Whole.{list-whole}
+use Rattle.partner.specs.declared.line.Line.{Line}
+use Rattle.partner.specs.declared.line.LineRead.{LineRead}
+use Rattle.partner.specs.declared.line.LineAnswer.{LineAnswer}
+use Rattle.partner.specs.Line.{readOf, lineReply, LineWritten}
+use Rattle.partner.proofs.Unique.{read-line-unique, write-line-unique}
+use Rattle.partner.proofs.Lines.{line-back, line-again}
 
 -- ---- 1. Every set of columns and every byte string gets a reply.
 -- A byte string, offered to any day with any room, gets one answer and leaves one content of the room.
@@ -64,6 +70,14 @@ every-call = reply-in
 pub every-input : (input : List ℕ) → Steps (record { day = fresh; place = 0 }) input (dayList input)
 every-input = list-whole
 
+-- Two answers to the bytes of a partner's line are one, and so are two answers and two rooms of its writer.
+pub every-line : (s : List ℕ) (a b : LineAnswer) → lineReply a ≡ readOf s → lineReply b ≡ readOf s → a ≡ b
+every-line = read-line-unique
+
+pub every-written-line : (l : Line) (room : List ℕ) {r q : Answer} {exit other : List ℕ} → LineWritten l room r exit → LineWritten l room q other
+    → (r ≡ q) × (exit ≡ other)
+every-written-line l room = write-line-unique l room
+
 -- A refused call writes nothing into lent memory, and the day stands as before.
 pub refused-writes-nothing : (day : Day) (s room : List ℕ) (f : Refusal) (back : Day) {exit : List ℕ} → Offers day s room (Refused f back) exit
     → (back ≡ day) × (exit ≡ room)
@@ -80,6 +94,15 @@ module _ {room exit : List ℕ} {r : Answer} {n : ℕ} (done : answer r ≡ is n
 
   pub end-reads-back : (x : EndRecord) → EndWritten x room r exit → (endAt exit 0 ≡ x) × (endOf exit (x .groups) ≡ is x)
   end-reads-back = end-back done
+
+  -- A unit's number has 16 bits.
+  pub line-reads-back : (l : Line) → l .number ≤ 65535 → LineWritten l room r exit → readOf exit ≡ is (record { line = l; used = n })
+  line-reads-back l small = line-back l small done
+
+-- Of a line too: what is accepted, written again, gives the same bytes.
+pub line-written-again : (s : List ℕ) (l : LineRead) → readOf s ≡ is l → (lent : List ℕ) {left : List ℕ} {r : Answer} → l .used ≤ length lent
+    → LineWritten (l .line) lent r left → (answer r ≡ is (l .used)) × (take (l .used) left ≡ take (l .used) s)
+line-written-again s l e lent fits = line-again s l e lent fits
 
 module _ (day : Day) (s room : List ℕ) {step : Step} {exit : List ℕ} (o : Offers day s room (Taken step) exit) where
   -- Three steps, verdicts, balance.

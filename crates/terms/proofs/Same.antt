@@ -34,6 +34,7 @@ whys =
     ∷ W.PositionAhead
     ∷ W.MarginAhead
     ∷ W.WorkingCrossed
+    ∷ W.Line
     ∷ []
 
 abbrev pub whyBy : ℕ → Why
@@ -58,6 +59,7 @@ why-back W.Columns = refl
 why-back W.PositionAhead = refl
 why-back W.MarginAhead = refl
 why-back W.WorkingCrossed = refl
+why-back W.Line = refl
 
 pub why-same : (v w : Why) → numberOf v ≡ numberOf w → v ≡ w
 why-same v w e = sym (why-back v) ∙ ap whyBy e ∙ why-back w

@@ -31,6 +31,7 @@ numberOf W.Columns = 15
 numberOf W.PositionAhead = 17
 numberOf W.MarginAhead = 18
 numberOf W.WorkingCrossed = 19
+numberOf W.Line = 20
 
 -- a refusal as a reply
 abbrev pub refusal : {A : Type 0} → Refusal → Reply A

@@ -22,6 +22,7 @@ pub enum Why {
     PositionAhead,
     MarginAhead,
     WorkingCrossed,
+    Line,
 }
 
 impl Why {
@@ -47,6 +48,7 @@ impl Why {
             Why::PositionAhead => 17,
             Why::MarginAhead => 18,
             Why::WorkingCrossed => 19,
+            Why::Line => 20,
         }
     }
 }

@@ -33,7 +33,7 @@ use Rattle.writers.proofs.Fields.{day-read, day-reads, length-group, gr
 use Rattle.writers.proofs.UnitBytes.{unit-read, unit-reads}
 
 -- the room begins with what was written
-front : {right : Reply ℕ} (bytes entry : List ℕ) {r : Answer} {exit : List ℕ} {n : ℕ} → Wrote right bytes entry r exit → answer r ≡ is n
+pub front : {right : Reply ℕ} (bytes entry : List ℕ) {r : Answer} {exit : List ℕ} {n : ℕ} → Wrote right bytes entry r exit → answer r ≡ is n
     → (right ≡ is n) × (exit ≡ bytes ++ drop n entry)
 unfolding laid
 front bytes entry w e =

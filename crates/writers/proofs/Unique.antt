@@ -11,7 +11,7 @@ use Rattle.writers.specs.Columns.{Columns}
 use Rattle.writers.specs.Writing.{Wrote, DayWritten, EndWritten, BlockWritten}
 
 module _ (entry : List ℕ) {r q : Answer} {exit other : List ℕ} where
-  wrote-unique : {right : Reply ℕ} {bytes : List ℕ} → Wrote right bytes entry r exit → Wrote right bytes entry q other → (r ≡ q) × (exit ≡ other)
+  pub wrote-unique : {right : Reply ℕ} {bytes : List ℕ} → Wrote right bytes entry r exit → Wrote right bytes entry q other → (r ≡ q) × (exit ≡ other)
   wrote-unique a b = (answer-same r q (a .replied ∙ sym (b .replied)), a .room ∙ sym (b .room))
 
   pub write-day-unique : (d : DayRecord) → DayWritten d entry r exit → DayWritten d entry q other → (r ≡ q) × (exit ≡ other)

@@ -109,6 +109,9 @@ enum-told-18 c = search needs
 working-finding-requires : tie.Need-working-finding-requires
 working-finding-requires c κs = search needs
 
+enum-told-19 : tie.Need-enum-told-19
+enum-told-19 c = search needs
+
 returns : tie.Need-returns
 unfolding findingOf
 returns c = rw (c .enum-told .given .1)
@@ -181,6 +184,10 @@ returns-18 : tie.Need-returns-18
 unfolding findingOf
 returns-18 c = rw (c .before .enum-told18 .given .1) (c .working-finding .ensures)
 
+returns-19 : tie.Need-returns-19
+unfolding findingOf
+returns-19 c = rw (c .enum-told19 .given .1)
+
 pub finding-of-spec : {M : Type 1} → statement M
 finding-of-spec =
     tie.close
@@ -220,6 +227,7 @@ finding-of-spec =
     margins-finding-requires-2
     enum-told-18
     working-finding-requires
+    enum-told-19
     returns
     returns-2
     returns-3
@@ -237,4 +245,5 @@ finding-of-spec =
     returns-15
     returns-16
     returns-17
-    returns-18)
+    returns-18
+    returns-19)

@@ -4,7 +4,7 @@ use Rattle.listing.proofs.list.must_wait.Statement.{statement}
 use Rattle.listing.proofs.list.must_wait.Tie as tie
 
 returns : tie.Need-returns
-returns c = search needs
+returns c = rw (c .if1 .taken)
 
 number-requires : tie.Need-number-requires
 number-requires c κs = search needs
