@@ -241,6 +241,8 @@ def replaced(text, pieces):
 
 
 def errors_of(said):
+    # The prover breaks a long line before these words.
+    said = re.sub(r"\n +(?=has no field)", " ", said)
     return [line for line in said.split("\n") if ": error" in line or line.startswith("error")]
 
 
