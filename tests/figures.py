@@ -1,29 +1,33 @@
 #!/usr/bin/env python3
-"""Works out from documents 01 and 02, without the library, the lines that the program `figures` must write.
+"""The figures of documents 01 and 02, worked out without the library, and what the compiled calls make of them.
 
-usage: tests/figures.py            the lines, for crates/figures/stdout
-       tests/figures.py --check    compares that file with them
+usage: tests/figures.py PROGRAM..
 
-What "Small figures" tells of a figure is asserted of its line, and what request §6 makes of a tie. Each
-case of "Readings to rule out" is also worked out under the wrong reading, and must come out otherwise.
+PROGRAM.. is a command that speaks docs/PROBE.md. Each figure is given to it as a block that is offered and as columns, and
+must come out as worked out here. What "Small figures" tells of a figure is asserted of that, and what request §6 makes of a
+tie; each case of "Readings to rule out" is also worked out under the wrong reading, and must come out otherwise. Prints a line
+for each figure that comes out wrong, and at last `N passed, M failed`; the exit status is 1 if any failed.
 """
 
-import pathlib
+import struct
+import subprocess
 import sys
 from fractions import Fraction
 
-STDOUT = pathlib.Path(__file__).resolve().parent.parent / "crates" / "figures" / "stdout"
+from frames import columns, frame, i32s, refusal
+
 LIMIT = 1_000_000
 
 
-def unit(n0, pc=0, low=-LIMIT, high=LIMIT, cls=0, implicit=False):
-    return {"n0": n0, "pc": pc, "low": low, "high": high, "cls": cls, "implicit": implicit}
+def unit(n0, pc=0, low=-LIMIT, high=LIMIT, cls=0):
+    """A nominated unit."""
+    return {"n0": n0, "pc": pc, "low": low, "high": high, "cls": cls, "coincide": 0, "nominated": 1, "implicit": False}
 
 
 def not_nominated(pc, cls, coincide):
     """What was sold is taken where BRP and BSP coincide, or the unit is not enabled."""
     implicit = bool(coincide) or cls == 0
-    return unit(-pc if implicit else 0, pc, cls=cls, implicit=implicit)
+    return {**unit(-pc if implicit else 0, pc, cls=cls), "coincide": coincide, "nominated": 0, "implicit": implicit}
 
 
 def wide(p, *n0s):
@@ -32,6 +36,9 @@ def wide(p, *n0s):
 
 
 # ---- The steps, and the readings to rule out
+
+# The places in a unit record of what is out of range.
+QUANTITIES = {"n0": 6, "pc": 10, "low": 14, "high": 18}
 
 
 def step1(u, wrong):
@@ -85,9 +92,10 @@ def reason(u, n1, n2, n3):
 
 
 def judge(units, wrong=None):
-    for place, u in enumerate(units):
-        if any(abs(u[field]) > LIMIT for field in ("n0", "pc", "low", "high")):
-            return {"refused": [8], "at": [place]}
+    for index, u in enumerate(units):
+        for field, place in QUANTITIES.items():
+            if abs(u[field]) > LIMIT:
+                return {"refused": [8], "unit": [index], "place": [place]}
     p = sum(u["pc"] for u in units)
     low, high = min(0, -p), max(0, -p)
     n1 = [step1(u, wrong) for u in units]
@@ -162,50 +170,127 @@ READINGS = [
     ("-3 with M+ -5, 2; P -10", [unit(-3, -10, high=-5), unit(2)], "absolute values"),
 ]
 
+# Name, the minute made for a run at minute 240 and a limit of 120, and what the document tells.
 RUN, AGE_LIMIT = 240, 120
-AGES = [  # name, minute made, and what the document tells
-    ("Age 120 of 120", 120, "passes"),
-    ("Age 121 of 120", 119, "refused 10 at 6"),
-    ("A minute ahead", 241, "refused 17 at 6"),
-]
+AGES = [("Age 120 of 120", 120, None), ("Age 121 of 120", 119, 10), ("A minute ahead", 241, 17)]
 DATE_FOR_AGE = ("Made at minute 100, age 140 of 120", 100)
 
 
 def aged(made, wrong=None):
-    """What a group record made at a minute is told: its age is the run's minute less its own."""
+    """What a group record made at a minute is refused for: its age is the run's minute less its own."""
     age = made if wrong == "date for age" else RUN - made
-    return "refused 17 at 6" if age < 0 else "passes" if age <= AGE_LIMIT else "refused 10 at 6"
+    return 17 if age < 0 else None if age <= AGE_LIMIT else 10
 
 
-def line(name, out):
-    return name + ":" + "".join(f" {word} {' '.join(map(str, values))}" for word, values in out.items())
+# ---- The calls
+
+GROUP, UNIT, GROUP_RESULT, UNIT_RESULT = 10, 26, 27, 20
+SUMS = "P", "S1", "S2", "S3", "balance"
+KEY = struct.pack(">HBB", 7, 2, 40)
+# A day of 96 quarters with no block yet: its state, day, quarters, run, limits, groups and last key.
+OPEN_DAY = struct.pack(">BHBIHHIBHBB", 1, 9510, 96, RUN, AGE_LIMIT, 1440, 0, 0, 0, 0, 0)
 
 
-def lines():
+def block(units, made=RUN):
+    """The bytes of a block with the units."""
+    bytes_ = b"\x02" + KEY + struct.pack(">BI", len(units), made)
+    for number, u in enumerate(units):
+        marks = struct.pack(">BHBBB", 3, number, u["cls"], u["coincide"], u["nominated"])
+        n = u["n0"] if u["nominated"] else 0
+        bytes_ += marks + i32s(n, u["pc"], u["low"], u["high"]) + struct.pack(">I", RUN)
+    return bytes_
+
+
+def offered(units, made=RUN):
+    """A block that is offered to the day, with just the room that its result needs."""
+    return frame(2, OPEN_DAY + struct.pack(">H", GROUP_RESULT + UNIT_RESULT * len(units)) + block(units, made))
+
+
+def told_of(units, reply):
+    """What an offer's reply tells: the words of `judge`, or a refusal's number and place."""
+    if reply[0]:
+        return struct.unpack(">BI", reply[1:6])
+    room = reply[9 + len(OPEN_DAY) :]
+    out = {"verdict": [room[5]], **{word: [value] for word, value in zip(SUMS, struct.unpack(">5i", room[7:GROUP_RESULT]))}}
+    results = [room[GROUP_RESULT + UNIT_RESULT * i :][:UNIT_RESULT] for i in range(len(units))]
+    out["reasons"] = [result[3] for result in results]
+    quantities = [struct.unpack(">4i", result[4:]) for result in results]
+    return {**out, **{word: [each[k] for each in quantities] for k, word in enumerate(("n0", "n1", "n2", "n3"))}}
+
+
+def as_columns(units):
+    """A group given as columns, the three that are written of its own length."""
+    numbers = [[u[field] for u in units] for field in ("n0", "pc", "low", "high", "cls")]
+    return columns(*numbers, written=[len(units)] * 3)
+
+
+def columns_give(units, out):
+    """The reply to that: verdict and sums, n1, n2 and n3, or the refusal at the unit's index and columns as they were."""
+    if "refused" in out:
+        return refusal(8, out["unit"][0]) + b"\xa5" * 4 * 3 * len(units)
+    sums = bytes([0, *out["verdict"]]) + i32s(*(out[word][0] for word in SUMS))
+    return sums + i32s(*out["n1"], *out["n2"], *out["n3"])
+
+
+def is_right(units, out, offer, judged):
+    """Whether the two replies tell what was worked out."""
+    right = (8, GROUP + UNIT * out["unit"][0] + out["place"][0]) if "refused" in out else out
+    return told_of(units, offer) == right and judged == columns_give(units, out)
+
+
+# ---- All of them
+
+
+def groups():
+    """Each figure of a group: its name, its units, and what comes of them."""
     for name, units, told in SMALL + TIES:
         out = judge(units)
         for word, values in told.items():
             assert out.get(word) == values, (name, word, out)
-        yield line(name, out)
-    for name, made, told in AGES:
-        assert aged(made) == told, name
-        yield f"{name}: {told}"
+        yield name, units, out
     for name, units, wrong in READINGS:
         out = judge(units)
         assert judge(units, wrong) != out, (name, wrong, out)
-        yield line(name, out)
+        yield name, units, out
+
+
+def ages():
+    """Each figure of an age: its name, the minute, and the number that it is refused for."""
+    for name, made, told in AGES:
+        assert aged(made) == told, name
+        yield name, made, told
     name, made = DATE_FOR_AGE
     assert aged(made, "date for age") != aged(made), name
-    yield f"{name}: {aged(made)}"
+    yield name, made, aged(made)
 
 
-def main(words):
-    text = "".join(each + "\n" for each in lines())
-    if words == ["--check"]:
-        return 0 if STDOUT.read_text() == text else f"{STDOUT} is not what the documents give"
-    sys.stdout.write(text)
-    return 0
+def replies_of(program, frames):
+    """The body of each reply frame."""
+    said, bodies = subprocess.run(program, input=b"".join(frames), stdout=subprocess.PIPE, check=True).stdout, []
+    while said:
+        end = 4 + struct.unpack(">I", said[:4])[0]
+        bodies.append(said[4:end])
+        said = said[end:]
+    return bodies
+
+
+def main(program):
+    figures, one = list(groups()), [unit(0)]
+    frames = [each for _, units, _ in figures for each in (offered(units), as_columns(units))]
+    frames += [offered(one, made) for _, made, _ in ages()]
+    replies = replies_of(program, frames)
+    wrong = [] if len(replies) == len(frames) else [f"{len(replies)} replies to {len(frames)} frames"]
+    pairs = zip(figures, zip(replies[::2], replies[1::2]))
+    wrong += [name for (name, units, out), both in pairs if not is_right(units, out, *both)]
+    for (name, _, number), reply in zip(ages(), replies[2 * len(figures) :]):
+        told = told_of(one, reply)
+        if told != (number, 6) if number else isinstance(told, tuple):
+            wrong.append(name)
+    for name in wrong:
+        print(f"{name}: the calls give something else")
+    print(f"{len(figures) + len(list(ages())) - len(wrong)} passed, {len(wrong)} failed")
+    return 1 if wrong else 0
 
 
 if __name__ == "__main__":
-    sys.exit(main(sys.argv[1:]))
+    sys.exit(main(sys.argv[1:]) if sys.argv[1:] else __doc__)

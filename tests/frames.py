@@ -29,9 +29,9 @@ def reply(body):
     return struct.pack(">I", len(body)) + body
 
 
-def columns(n0, pc, low, high, classes, written=3):
+def columns(n0, pc, low, high, classes, written=(3, 3, 3)):
     lengths = [len(column) for column in (n0, pc, low, high, classes)]
-    return frame(1, bytes(lengths + [3, 3, written]) + i32s(*n0, *pc, *low, *high) + bytes(classes))
+    return frame(1, bytes([*lengths, *written]) + i32s(*n0, *pc, *low, *high) + bytes(classes))
 
 
 def accepted(verdict, *numbers):
@@ -74,7 +74,7 @@ LINE, LINE_VALUES = b"11;40;5,000;I;0,000;I;4,500;I\n", (11, 40, 5000, 0, 4500)
 CASES = [
     (columns(*UNITS, [0, 0, 1]), RIGHT),
     (columns(*UNITS, [0, 2, 1]), refused(7, 1)),
-    (columns(*UNITS, [0, 0, 1], written=4), refused(15, 0, written=4)),
+    (columns(*UNITS, [0, 0, 1], written=(3, 3, 4)), refused(15, 0, written=4)),
     (frame(1, bytes(9)), reply(NOT_FITTING)),
     (frame(0, b"body"), reply(NOT_FITTING)),
     (read_line(LINE + b"rest"), line_read(30, LINE_VALUES)),
