@@ -21,7 +21,7 @@ WORDS = {
 OPEN, CLOSE = "([{", ")]}"
 
 
-class Mutant:
+class Mutant(prover.Change):
     """One replacement in one file: the characters from `start` to `end` become `new`."""
 
     def __init__(self, region, name, start, end, new):

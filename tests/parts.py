@@ -14,7 +14,8 @@ import mutate
 from prover import ROOT, is_program
 
 CALLED = re.compile(r"\b(\w+)\(")
-LAW = re.compile(r"/proofs/\w+\.antt:")
+LAW = re.compile(r"/proofs/(\w+)\.antt:")
+WORD = re.compile(r"[^\s(){}\[\];,.:&!]+")
 USED = re.compile(r"^use (?:crate::)?((?:\w+::)*\w+);\n", re.M)
 
 
@@ -66,6 +67,10 @@ class Crate:
     def module(self, function):
         return ".".join([f"Rattle.{self.crate}.proofs", "proofs", *function.path])
 
+    def cited_by(self, laws):
+        """Some laws and those that they cite."""
+        return set(laws) | self.cited("".join(self.laws[law] for law in laws))
+
     def cited(self, text):
         """The laws that a proof cites, and those that these cite."""
         found, open_ = set(), [text]
@@ -74,6 +79,23 @@ class Crate:
             new = {law for law in self.laws if law not in found and re.search(rf"·proofs\.proofs\.{law}\b", text)}
             found |= new
             open_ += [self.laws[law] for law in new]
+        return found
+
+    def words(self, functions, laws):
+        """Every word of the functions, of their proofs and of the laws, and of the definitions that these name, and so on."""
+        texts = [self.functions[name].text + self.proof_of(self.functions[name]) for name in functions] + [self.laws[law] for law in laws]
+        found, open_ = set(), {word for text in texts for word in WORD.findall(text)}
+        while open_:
+            found |= open_
+            open_ = {word for name in open_ for word in self.defined_words.get(name, ())} - found
+        return found
+
+    @functools.cached_property
+    def defined_words(self):
+        found = {}
+        for (crate, side, _), module in known().known.items():
+            for name, one in module.definitions.items() if (crate, side) == (self.crate, "specs") else ():
+                found.setdefault(name, set()).update(WORD.findall("\n".join(one.around + one.lines())))
         return found
 
     def nearest(self, touched):

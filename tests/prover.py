@@ -287,25 +287,37 @@ class Function:
 
 
 def told_together(bench, lot, rest=None):
-    """Of changes of different functions of a crate, made at once: those that their own functions' proofs refuse, each with the error.
-    The rest of the crate is left out where one is given.
+    """Of changes of one crate that do not meet, made at once: those that are refused by a fact, each with the error. The rest of the
+    crate is left out where one is given.
 
-    A function is proved from the contracts of those that it calls, so that an error of a fact in its proof comes from its own
-    change. Of a change that is not told of, nothing is known: its error may be hidden by that of a function that it calls. Where
-    the compiler rejects some, the others are made once more; where a fact no longer holds anywhere else, the lot tells of none.
+    Each change tells which facts are its own, and which of these refuse it. A function is proved from the contracts of those that it
+    calls, so that an error of a fact in its proof comes from its own change. Of a change that is not told of, nothing is known: its
+    error may be hidden by that of a function that it calls. Where the compiler rejects some, the others are made once more; where a
+    fact no longer holds that is no change's own, the lot tells of none.
     """
     while lot:
         verdict, said = bench.check(lot[0].crate, lot, rest)
         if verdict == REFUSED:
             facts = facts_of(said)
-            own = {change: [fact for fact in facts if change.function.has(fact)] for change in lot}
-            strayed = len(facts) > sum(map(len, own.values()))
-            return {} if strayed else {change: in_crate(found[0]) for change, found in own.items() if found}
-        rejected = [change for change in lot if change.function.is_rejected(said)]
+            if not all(any(change.owns(fact) for change in lot) for fact in facts):
+                return {}
+            found = {change: [fact for fact in facts if change.is_refused_by(fact)] for change in lot}
+            return {change: in_crate(own[0]) for change, own in found.items() if own}
+        rejected = [change for change in lot if change.function and change.function.is_rejected(said)]
         if verdict != REJECTED or not rejected:
             return {}
         lot = [change for change in lot if change not in rejected]
     return {}
+
+
+class Change:
+    """A change of the crates' files. One of a function's body is refused by a fact in the function's own proof."""
+
+    def owns(self, fact):
+        return self.function.has(fact)
+
+    def is_refused_by(self, fact):
+        return self.owns(fact)
 
 
 def lots_of(changes, most=LOT):
