@@ -20,8 +20,8 @@ import time
 ROOT = pathlib.Path(__file__).resolve().parent.parent
 SECONDS = ROOT / "target" / "seconds.tsv"
 TOGETHER = 2
-# rt starts so many crates that do not need each other and waits for all of them: with one more than the processors, short ones fill in.
-JOBS = os.environ.get("RT_JOBS") or str((os.cpu_count() or 1) + 1)
+# rt starts so many crates that do not need each other and waits for all of them; what runs beside it fills in.
+JOBS = os.environ.get("RT_JOBS") or str(os.cpu_count() or 1)
 
 
 class Part:
