@@ -12,7 +12,8 @@ enum-known-s c = search needs
 
 accepted-requires : tie.Need-accepted-requires
 accepted-requires c κs =
-    let after = c .before .before .before .before .before .before .before .before .before in
+    let known = c .before .before .before .before in
+    let after = known .before .before .before .before .before in
     let start = after .before .before .before .before .before in
     let same = start .pre .0 in
     let kept = after .judge .kept .1 .1 .1 .1 .1 in

@@ -5,6 +5,10 @@ use lib.Seq.{length-take-le}
 use Rattle.figures.proofs.show.show.Statement.{statement}
 use Rattle.figures.proofs.show.show.Tie as tie
 
+-- what stood before the name was shown
+abbrev entry : tie.After-text2 → tie.Start
+entry c = c .before .before .before .before .before
+
 text-requires : tie.Need-text-requires
 text-requires c κs = search needs
 
@@ -18,23 +22,23 @@ array-borrow-prefix-n1 : tie.Need-array-borrow-prefix-n1
 array-borrow-prefix-n1 c = search needs
 
 slice-aggregate-outcome : tie.Need-slice-aggregate-outcome
-slice-aggregate-outcome c = sym (length-take-le _ _ (c .before .before .before .before .before .before .pre .0))
+slice-aggregate-outcome c = sym (length-take-le _ _ (entry (c .before) .pre .0))
 
 array-borrow-prefix-n2 : tie.Need-array-borrow-prefix-n2
 array-borrow-prefix-n2 c = search needs
 
 slice-aggregate-outcome-2 : tie.Need-slice-aggregate-outcome-2
-slice-aggregate-outcome-2 c = sym (length-take-le _ _ (c .before .before .before .before .before .before .before .pre .0))
+slice-aggregate-outcome-2 c = sym (length-take-le _ _ (entry (c .before .before) .pre .0))
 
 array-borrow-prefix-n3 : tie.Need-array-borrow-prefix-n3
 array-borrow-prefix-n3 c = search needs
 
 slice-aggregate-outcome-3 : tie.Need-slice-aggregate-outcome-3
-slice-aggregate-outcome-3 c = sym (length-take-le _ _ (c .before .before .before .before .before .before .before .before .pre .0))
+slice-aggregate-outcome-3 c = sym (length-take-le _ _ (entry (c .before .before .before) .pre .0))
 
 outcome-requires : tie.Need-outcome-requires
 outcome-requires c κs =
-    let start = c .before .before .before .before .before .before .before .before in
+    let start = entry (c .before .before .before) in
     let full = length-take-le _ _ (start .pre .0) in
     ((full, (full, full)), start .pre .1)
 
