@@ -152,13 +152,23 @@ module _ (s : List ℕ) (day : DayRecord) where
         passes : marksPass u floor day ≡ true
         passes = sym (t .told) ∙ yes
 
-        pub small : Within 1000000 (u .pc .0)
+        small : Within 1000000 (u .pc .0)
         small = marked u floor day passes .pc
 
         here-in : u ≡ unitIn s i
         here-in = sym v ∙ ap (unitAt s) (g .place)
 
-        pub turn : {h f q : ℕ} → h ≡ unitEnd s here → f ≡ u .number + 1 → q ≡ ofZ w32 (sumZ (pcIn s i) +ℤ u .pc .0) → Going class' taken' n0' down' up' h f q (i + 1)
+        -- the sum of PC and its own, as the machine adds them
+        abbrev more : ℤ
+        more = toZ w32 p +ℤ toZ w32 (ofZ w32 (u .pc .0))
+
+        is-more : more ≡ sumZ (pcIn s i) +ℤ u .pc .0
+        is-more = rw (added-back (g .sold) upto, back _ small)
+
+        pub fits : SFits w32 more
+        fits = rw is-more (added-fits (g .sold) upto _ small (omega (arith, l, g .begun .few)))
+
+        pub turn : {h f q : ℕ} → h ≡ unitEnd s here → f ≡ u .number + 1 → q ≡ ofZ w32 more → Going class' taken' n0' down' up' h f q (i + 1)
         unfolding placeFrom
         turn {h} {f} {q} eh ef eq =
             record {
@@ -166,7 +176,7 @@ module _ (s : List ℕ) (day : DayRecord) where
               within = omega arith;
               place = eh ∙ ap (unitEnd s) (g .place) ∙ ap (placeFrom s groupLength) (sym (add-one i));
               left = onward;
-              sold = added-more (g .sold) upto (rw here-in) small eq;
+              sold = added-more (g .sold) upto (rw here-in) small (eq ∙ ap (ofZ w32) is-more);
               classes = fill-more _ _ i class l (t .classes yes ∙ rw here-in) (g .classes);
               marks = fill-more _ _ i taken l (t .marks yes ∙ rw here-in) (g .marks);
               starts = fill-more _ _ i n0 l (t .starts yes ∙ rw here-in) (g .starts);

@@ -11,6 +11,10 @@ use borrow.Author.Needs.{needs}
 use Rattle.daylist.proofs.turn.Statement.{statement}
 use Rattle.daylist.proofs.turn.Tie as tie
 
+-- what stood before the list answered
+abbrev entry : tie.After-list-next → tie.Start
+entry c = let known = c .before .before .before .before .before in known .before .before
+
 sub-list-next : tie.Need-sub-list-next
 sub-list-next c = search needs
 
@@ -38,7 +42,7 @@ enum-known-listed c = search needs
 advanced-requires : tie.Need-advanced-requires
 advanced-requires c κs =
     let list-next = c .before .before .before .before .before in
-    let s = list-next .before .before .before .before .before .before .before in
+    let s = entry list-next in
     let w = s .args .w in
     let out = now (s .args .output) in
     let n = list-next .list-next in
@@ -54,7 +58,7 @@ enum-known-listed-2 c = search needs
 refused-requires : tie.Need-refused-requires
 refused-requires c κs =
     let list-next = c .before .before .before .before .before in
-    let s = list-next .before .before .before .before .before .before .before in
+    let s = entry list-next in
     let w = s .args .w in
     let out = now (s .args .output) in
     let n = list-next .list-next in
@@ -68,9 +72,10 @@ enum-told c = search needs
 
 waited-requires : tie.Need-waited-requires
 waited-requires c κs =
-    let list-next = c .before .before .before .before .before .before in
-    let s = list-next .before .before .before .before .before .before .before in
-    let o = rw (c .before .before .enum-told .given .1) at (list-next .list-next .ensures) in
+    let told = c .before .before in
+    let list-next = told .before .before .before .before in
+    let s = entry list-next in
+    let o = rw (told .enum-told .given .1) at (list-next .list-next .ensures) in
     let a = s .args in
     let p = s .pre .0 in
     let long = s .pre .1 .1 .1 in
@@ -96,9 +101,10 @@ same-length-2 c = search needs
 
 returns : tie.Need-returns
 returns c =
-    let list-next = c .before .before .before .before .before .before in
-    let s = list-next .before .before .before .before .before .before .before in
-    let o = rw (c .before .before .listed .given .1) at (list-next .list-next .ensures) in
+    let told = c .before .before in
+    let list-next = told .before .before .before .before in
+    let s = entry list-next in
+    let o = rw (told .listed .given .1) at (list-next .list-next .ensures) in
     let a = s .args in
     let p = s .pre .0 in
     let long = s .pre .1 .1 .1 in
@@ -112,9 +118,10 @@ same-length-4 c = search needs
 
 returns-2 : tie.Need-returns-2
 returns-2 c =
-    let list-next = c .before .before .before .before .before .before in
-    let s = list-next .before .before .before .before .before .before .before in
-    let o = rw (c .before .before .listed2 .given .1) at (list-next .list-next .ensures) in
+    let told = c .before .before in
+    let list-next = told .before .before .before .before in
+    let s = entry list-next in
+    let o = rw (told .listed2 .given .1) at (list-next .list-next .ensures) in
     let a = s .args in
     let p = s .pre .0 in
     let long = s .pre .1 .1 .1 in
@@ -128,9 +135,10 @@ same-length-6 c = search needs
 
 returns-3 : tie.Need-returns-3
 returns-3 c =
-    let list-next = c .before .before .before .before .before .before .before .before .before in
-    let s = list-next .before .before .before .before .before .before .before in
-    let o = rw (c .before .before .before .before .before .enum-told .given .1) at (list-next .list-next .ensures) in
+    let told = c .before .before .before .before .before in
+    let list-next = told .before .before .before .before in
+    let s = entry list-next in
+    let o = rw (told .enum-told .given .1) at (list-next .list-next .ensures) in
     let a = s .args in
     let p = s .pre .0 in
     let long = s .pre .1 .1 .1 in
@@ -145,9 +153,10 @@ same-length-8 c = search needs
 
 returns-4 : tie.Need-returns-4
 returns-4 c =
-    let list-next = c .before .before .before .before .before .before in
-    let s = list-next .before .before .before .before .before .before .before in
-    let o = rw (c .before .before .enum-told2 .given .1) at (list-next .list-next .ensures) in
+    let told = c .before .before in
+    let list-next = told .before .before .before .before in
+    let s = entry list-next in
+    let o = rw (told .enum-told2 .given .1) at (list-next .list-next .ensures) in
     let a = s .args in
     let p = s .pre .0 in
     let long = s .pre .1 .1 .1 in
@@ -162,7 +171,7 @@ same-length-10 c = search needs
 returns-5 : tie.Need-returns-5
 returns-5 c =
     let list-next = c .before .before .before .before .before in
-    let s = list-next .before .before .before .before .before .before .before in
+    let s = entry list-next in
     let o = rw (c .before .enum-told3 .given .1) at (list-next .list-next .ensures) in
     let a = s .args in
     let p = s .pre .0 in

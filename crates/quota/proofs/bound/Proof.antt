@@ -32,14 +32,16 @@ same-length c = search needs
 
 returns : tie.Need-returns
 returns c =
-    let start = c .before .before .before .before .before .before .before .before .before in
-    let p = c .before .before .parted .ensures in
+    let parted = c .before .before in
+    let second = parted .before .before in
+    let start = second .before .before .before .before .before in
+    let p = parted .parted .ensures in
     just-parts (now (start .args .marks)) (start .args .d) (now (start .args .n1)) (p .spans .met (c .if1 .taken))
 
 untied-requires : tie.Need-untied-requires
 untied-requires c κs =
-    let start = c .before .before .before .before .before .before .before .before .before .before in
     let second = c .before .before .before .before .before in
+    let start = second .before .before .before .before .before in
     let p = tried-parted (second .before .before .narrowed .ensures) (second .narrowed2 .ensures) (c .before .before .before .parted .ensures) in
     (start .pre .0, tie-of p (omega (arith, p .spans .order, c .before .if1 .left)), start .pre .2, start .pre .3)
 

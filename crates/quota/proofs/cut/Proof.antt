@@ -56,12 +56,14 @@ same-length-2 c = search needs
 
 returns-3 : tie.Need-returns-3
 returns-3 c =
-    let made = c .before .before .before .before .before .before .before .before .before .before .before in
+    let dealt = c .before .before in
+    let bounded = dealt .before .before .before .before in
+    let made = bounded .before .before .before .before .before in
     let rated = rated-of made in
     let start = start-of rated in
     let m = made .marks-into .ensures in
-    c .before .before .deal .ensures
-    ∙ all-dealt (shared rated) (start .pre .1) _ (m .1) (m .0) (c .before .before .before .before .before .before .bound .ensures)
+    dealt .deal .ensures
+    ∙ all-dealt (shared rated) (start .pre .1) _ (m .1) (m .0) (bounded .bound .ensures)
     ∙ ap (cutsOf (now (start .args .sizes))) (rated .of .ensures .0)
 
 pub cut-spec : {M : Type 1} → statement M

@@ -56,8 +56,9 @@ loop-less c = search needs
 
 loop-again : tie.Need-loop-again Inv-loop μ-loop
 loop-again c =
-    let a = c .before .before .before .before .before .before .args in
-    let l = c .before .before .before .before .loop in
+    let test = c .before .before .before in
+    let a = test .before .before .before .args in
+    let l = test .before .loop in
     let f : SFits w32 (at (now (a .n1)) (l .i)) = record { sfits = c .before .before .dealt-to-arg .given } in
     let e : c .dealt-to .result ≡ dealtAt (a .d) (a .ratio .t) (a .ratio .c) (a .x) (at (now (a .n1)) (l .i)) (getD (l .cuts) (l .i) 0) = simp toZ-ofZ at (c .dealt-to .ensures) in
     filled-turn (l .inv) refl 0 (rw (filled-next (l .inv) refl 0 (omega arith)) at e) (omega arith)

@@ -42,17 +42,20 @@ size-requires c κs = search needs
 
 -- the size that was worked out is that of the unit
 sized : (c : tie.After-size Inv-loop μ-loop) →
-    let start = c .before .before .before .before .before .before in
-    c .size .result ≡ sizeIn (start .args .d) (at (now (start .args .n1)) (c .before .before .before .before .loop .i))
+    let test = c .before .before .before in
+    let start = test .before .before .before in
+    c .size .result ≡ sizeIn (start .args .d) (at (now (start .args .n1)) (test .before .loop .i))
 sized c =
-    let start = c .before .before .before .before .before .before in
-    let f : SFits w32 (at (now (start .args .n1)) (c .before .before .before .before .loop .i)) = record { sfits = c .before .size-arg .given } in
+    let test = c .before .before .before in
+    let start = test .before .before .before in
+    let f : SFits w32 (at (now (start .args .n1)) (test .before .loop .i)) = record { sfits = c .before .size-arg .given } in
     simp toZ-ofZ at (c .size .ensures)
 
 remark-requires : tie.Need-remark-requires Inv-loop μ-loop
 remark-requires c κs =
-    let start = c .before .before .before .before .before .before in
-    let l = c .before .before .before .before .loop in
+    let test = c .before .before .before in
+    let start = test .before .before .before in
+    let l = test .before .loop in
     (omega (arith, sized c, size-within (start .args .d) (at (now (start .args .n1)) (l .i)) (start .pre .1 (l .i))), omega (arith, start .pre .0))
 
 mul-marks : tie.Need-mul-marks Inv-loop μ-loop
@@ -69,8 +72,9 @@ loop-less c = search needs
 
 loop-again : tie.Need-loop-again Inv-loop μ-loop
 loop-again c =
-    let a = c .before .before .before .before .before .before .before .args in
-    let l = c .before .before .before .before .before .loop in
+    let test = c .before .before .before .before in
+    let a = test .before .before .before .args in
+    let l = test .before .loop in
     filled-turn (l .inv) refl 0
     (c .remark .ensures ∙ ap₂ (λ (m n : ℕ). remarkBy (a .shared) m n (l .i)) (filled-next (l .inv) refl 0 (omega arith)) (sized (c .before)))
     (omega arith)

@@ -29,9 +29,10 @@ slice-reshared-read-narrowed c = search needs
 
 narrowed-requires : tie.Need-narrowed-requires
 narrowed-requires c κs =
-    let start = c .before .before .before .before .before .before in
+    let marked = c .before .before .before in
+    let start = marked .before .before .before in
     let a = start .args in
-    let m = c .before .before .before .remark-all .ensures in
+    let m = marked .remark-all .ensures in
     let p = start .pre in (
       omega (arith, ap length m, re-length (now (a .marks)) (a .d) (now (a .n1)) (p .0) (p .1) (p .2), p .0 .few),
       subst (λ (l : List ℕ). Spans l (a .left) tied won) (sym m) (tied-first (now (a .marks)) (a .d) (now (a .n1)) (p .0) (p .1) (p .2)),
@@ -54,11 +55,13 @@ same-length c = search needs
 
 returns : tie.Need-returns
 returns c =
-    let start = c .before .before .before .before .before .before .before .before .before .before .before in
+    let first = c .before .before .before .before in
+    let marked = first .before .before .before .before in
+    let start = marked .before .before .before in
     let a = start .args in
-    let m = c .before .before .before .before .before .before .before .before .remark-all .ensures in
+    let m = marked .remark-all .ensures in
     let p = start .pre in
-    let q = tried-parted (c .before .before .before .before .narrowed .ensures) (c .before .before .narrowed2 .ensures) (c .parted .ensures) in
+    let q = tried-parted (first .narrowed .ensures) (c .before .before .narrowed2 .ensures) (c .parted .ensures) in
     subst (λ (l : List ℕ). Parts (now (a .marks)) (a .left) (a .d) (now (a .n1)) l (c .parted .result .low)) (sym m)
     (tie-parts (now (a .marks)) (a .d) (now (a .n1)) (p .0) (p .1) (p .2) (subst (λ (l : List ℕ). Parted l (a .left) tied (c .parted .result .low) (c .parted .result .high)) m q))
 

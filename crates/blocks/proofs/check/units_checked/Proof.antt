@@ -9,6 +9,10 @@ use borrow.Author.Needs.{needs}
 use Rattle.blocks.proofs.check.units_checked.Statement.{statement}
 use Rattle.blocks.proofs.check.units_checked.Tie as tie
 
+-- what stood before the nominations were lent
+abbrev entry : tie.After-n0 → tie.Start
+entry c = c .before .before .before .before .before
+
 -- there are at most 64 units
 few : (c : tie.Start) → c .args .group .count ≤ mostUnits
 few c =
@@ -34,23 +38,23 @@ array-borrow-prefix-n0 : tie.Need-array-borrow-prefix-n0
 array-borrow-prefix-n0 c = few (c .before .before .before .before)
 
 slice-aggregate-block-units-3 : tie.Need-slice-aggregate-block-units-3
-slice-aggregate-block-units-3 c = sym (length-take-le _ _ (few (c .before .before .before .before .before)))
+slice-aggregate-block-units-3 c = sym (length-take-le _ _ (few (entry c)))
 
 array-borrow-prefix-step-down : tie.Need-array-borrow-prefix-step-down
-array-borrow-prefix-step-down c = few (c .before .before .before .before .before)
+array-borrow-prefix-step-down c = few (entry c)
 
 slice-aggregate-block-units-4 : tie.Need-slice-aggregate-block-units-4
-slice-aggregate-block-units-4 c = sym (length-take-le _ _ (few (c .before .before .before .before .before .before)))
+slice-aggregate-block-units-4 c = sym (length-take-le _ _ (few (entry (c .before))))
 
 array-borrow-prefix-step-up : tie.Need-array-borrow-prefix-step-up
-array-borrow-prefix-step-up c = few (c .before .before .before .before .before .before)
+array-borrow-prefix-step-up c = few (entry (c .before))
 
 slice-aggregate-block-units-5 : tie.Need-slice-aggregate-block-units-5
-slice-aggregate-block-units-5 c = sym (length-take-le _ _ (few (c .before .before .before .before .before .before .before)))
+slice-aggregate-block-units-5 c = sym (length-take-le _ _ (few (entry (c .before .before))))
 
 block-units-requires : tie.Need-block-units-requires
 block-units-requires c κs =
-    let start = c .before .before .before .before .before .before .before in
+    let start = entry (c .before .before) in
     let n = ap (λ (g : GroupRecord). g .count) (start .pre .1) in
     let k = few start in (
       start .pre,

@@ -9,10 +9,10 @@ use Rattle.blocks.proofs.decode.block_units.Tie as tie
 
 -- where the units were read, and what stood before
 abbrev units : tie.After-p → tie.After-units-into
-units c = c .before .before .before .before .before .before .before .before
+units c = let back = c .before .before .before .before .before in back .before .before .before
 
 abbrev entry : tie.After-units-into → tie.Start
-entry c = c .before .before .before .before .before .before .before .before .before
+entry c = let lent = c .before .before .before .before .before in lent .before .before .before .before
 
 units-into-requires : tie.Need-units-into-requires
 units-into-requires c κs = search needs

@@ -18,10 +18,10 @@ broken = record { whole = false; p = record { 0 = pos 0 }; end = 0 }
 
 -- where the units were read, and what stood before
 abbrev read : tie.After-step-up → tie.After-read-into
-read c = c .before .before .before .before .before .before .before
+read c = let held = c .before .before .before .before .before in held .before .before
 
 abbrev entry : tie.After-read-into → tie.Start
-entry c = c .before .before .before .before .before .before .before .before .before
+entry c = let lent = c .before .before .before .before .before in lent .before .before .before .before
 
 abbrev passing : tie.Then2 → tie.Then1
 passing c = c .before .before .before .before .before

@@ -18,6 +18,16 @@ use borrow.Author.Needs.{needs}
 use Rattle.blocks.proofs.lay.lay_unit_result.Statement.{statement}
 use Rattle.blocks.proofs.lay.lay_unit_result.Tie as tie
 
+-- where n3, n2, n1 and n0 were laid, and what stood before
+abbrev entry : tie.After-slice-known5 → tie.Start
+entry c =
+    let fourth = c .before .before in
+    let third = fourth .before .before .before .before .before in
+    let second = third .before .before .before .before .before in
+    let first = second .before .before .before .before .before in
+    let lent = first .before in
+    lent .before .before .before .before .before
+
 mul-start : tie.Need-mul-start
 mul-start c = omega arith
 
@@ -80,7 +90,7 @@ add-u16-at c = omega arith
 
 u16-at-requires : tie.Need-u16-at-requires
 u16-at-requires c κs =
-    let s = c .before .before .before .before .before .before .before .before .before .before .before .before .before .before .before .before .before .before .before .before .before .before .before in
+    let s = entry c in
     omega (arith, s .pre .bytes, length-least (unitAt (now (s .args .s)) (s .args .here)))
 
 lay-head-requires : tie.Need-lay-head-requires
@@ -91,14 +101,17 @@ add-lay-u8 c = omega arith
 
 mul-lay-u8 : tie.Need-mul-lay-u8
 mul-lay-u8 c =
-    let s = c .before .before .before .before .before .before .before .before .before .before .before .before .before .before .before .before .before .before .before .before .before .before .before .before .before .before .before .before .before in
+    let number = c .before .before .before .before .before in
+    let s = entry (number .before) in
     omega (arith, s .good, s .pre .below, s .pre .whys)
 
 shared-slice-read-lay-u8 : tie.Need-shared-slice-read-lay-u8
 shared-slice-read-lay-u8 c = omega arith
 
 cast-lay-u8 : tie.Need-cast-lay-u8
-cast-lay-u8 c = omega (arith, c .before .before .before .before .before .before .before .before .before .before .before .before .before .before .before .before .before .before .before .before .before .before .before .before .before .before .before .before .before .before .pre .byte)
+cast-lay-u8 c =
+    let head = c .before .before .before .before in
+    omega (arith, entry (head .before .before .before) .pre .byte)
 
 lay-u8-requires : tie.Need-lay-u8-requires
 lay-u8-requires c κs = omega arith
@@ -120,7 +133,7 @@ returns c =
     let d3 = d4 .before .before .before .before .before in
     let d2 = d3 .before .before .before .before .before in
     let d1 = d2 .before .before .before .before .before in
-    let s = d1 .before .before .before .before .before .before in
+    let s = entry (number .before) in
     let x = s .args in
     let i = x .i in
     let l = now (x .room) in

@@ -16,16 +16,16 @@ use Rattle.blocks.proofs.result.take_through.Tie as tie
 
 -- where the units were read, and what stood before; and where the room was long enough for what was then written
 abbrev units : tie.After-step-up → tie.After-block-units
-units c = c .before .before .before .before .before .before .before
+units c = let held = c .before .before .before .before .before in held .before .before
 
 abbrev entry : tie.After-block-units → tie.Start
-entry c = c .before .before .before .before .before .before .before .before .before .before .before
+entry c = let lent = c .before .before .before .before .before in let known = lent .before .before .before .before .before in known .before
 
-abbrev enough-before : tie.After-write-passed → tie.Else1
-enough-before c = c .before .before .before .before .before .before .before .before .before
+abbrev enough-before : tie.After-write-passed-arg8 → tie.Else1
+enough-before c = let lent = c .before .before .before .before .before in lent .before .before .before
 
 abbrev written : tie.After-step-up2 → tie.After-write-passed
-written c = c .before .before .before .before .before .before .before .before .before
+written c = let held = c .before .before .before .before .before in held .before .before .before .before
 
 block-units-requires : tie.Need-block-units-requires
 block-units-requires c κs = search needs
@@ -93,7 +93,7 @@ enough c =
 
 write-passed-requires : tie.Need-write-passed-requires
 write-passed-requires c κs =
-    let test = c .before .before .before .before .before .before .before .before in
+    let test = enough-before c in
     let known = test .before .before .before in
     let read = units (known .before .before) in
     let start = entry read in
@@ -106,17 +106,17 @@ same-length-11 c = written c .write-passed .kept .1 .1 .0
 
 same-length-12 : tie.Need-same-length-12
 same-length-12 c =
-    let read = units (enough-before (written c) .before .before .before .before .before) in
+    let read = units (enough-before (written c .before) .before .before .before .before .before) in
     read .block-units .kept .1 .1 .1 .0
 
 same-length-13 : tie.Need-same-length-13
 same-length-13 c =
-    let read = units (enough-before (written c) .before .before .before .before .before) in
+    let read = units (enough-before (written c .before) .before .before .before .before .before) in
     written c .write-passed .kept .1 .1 .1 .1 .0 ∙ read .block-units .kept .1 .1 .1 .1 .0
 
 same-length-14 : tie.Need-same-length-14
 same-length-14 c =
-    let read = units (enough-before (written c) .before .before .before .before .before) in
+    let read = units (enough-before (written c .before) .before .before .before .before .before) in
     read .block-units .kept .1 .1 .1 .1 .1 .0
 
 same-length-15 : tie.Need-same-length-15
@@ -127,18 +127,18 @@ same-length-16 c = written c .write-passed .kept .1 .1 .1 .1 .1 .1 .1 .0
 
 same-length-17 : tie.Need-same-length-17
 same-length-17 c =
-    let read = units (enough-before (written c) .before .before .before .before .before) in
+    let read = units (enough-before (written c .before) .before .before .before .before .before) in
     written c .write-passed .kept .1 .1 .1 .1 .1 .1 .1 .1 .0 ∙ read .block-units .kept .1 .1 .1 .1 .1 .1 .0
 
 same-length-18 : tie.Need-same-length-18
 same-length-18 c =
-    let read = units (enough-before (written c) .before .before .before .before .before) in
+    let read = units (enough-before (written c .before) .before .before .before .before .before) in
     written c .write-passed .kept .1 .1 .1 .1 .1 .1 .1 .1 .1 .0 ∙ read .block-units .kept .1 .1 .1 .1 .1 .1 .1 .0
 
 returns-3 : tie.Need-returns-3
 returns-3 c =
     let wrote = written c in
-    let test = enough-before wrote in
+    let test = enough-before (wrote .before) in
     let known = test .before .before .before in
     let read = units (known .before .before) in
     let start = entry read in

@@ -11,6 +11,13 @@ use borrow.Author.Needs.{needs}
 use Rattle.blocks.proofs.result.take_units.Statement.{statement}
 use Rattle.blocks.proofs.result.take_units.Tie as tie
 
+-- where the classes were lent, and what stood before
+abbrev entry : tie.After-class → tie.Start
+entry c = c .before .before .before .before .before
+
+abbrev classes : tie.After-n1 → tie.After-class
+classes c = c .before .before .before
+
 -- there are at most 64 units
 few : (c : tie.Start) → c .args .group .count ≤ mostUnits
 few c =
@@ -24,47 +31,47 @@ array-borrow-prefix-class : tie.Need-array-borrow-prefix-class
 array-borrow-prefix-class c = few (c .before .before .before .before)
 
 slice-aggregate-take-through : tie.Need-slice-aggregate-take-through
-slice-aggregate-take-through c = sym (length-take-le _ _ (few (c .before .before .before .before .before)))
+slice-aggregate-take-through c = sym (length-take-le _ _ (few (entry c)))
 
 array-borrow-prefix-taken : tie.Need-array-borrow-prefix-taken
-array-borrow-prefix-taken c = few (c .before .before .before .before .before)
+array-borrow-prefix-taken c = few (entry c)
 
 slice-aggregate-take-through-2 : tie.Need-slice-aggregate-take-through-2
-slice-aggregate-take-through-2 c = sym (length-take-le _ _ (few (c .before .before .before .before .before .before)))
+slice-aggregate-take-through-2 c = sym (length-take-le _ _ (few (entry (c .before))))
 
 array-borrow-prefix-n0 : tie.Need-array-borrow-prefix-n0
-array-borrow-prefix-n0 c = few (c .before .before .before .before .before .before)
+array-borrow-prefix-n0 c = few (entry (c .before))
 
 slice-aggregate-take-through-3 : tie.Need-slice-aggregate-take-through-3
-slice-aggregate-take-through-3 c = sym (length-take-le _ _ (few (c .before .before .before .before .before .before .before)))
+slice-aggregate-take-through-3 c = sym (length-take-le _ _ (few (entry (c .before .before))))
 
 array-borrow-prefix-n1 : tie.Need-array-borrow-prefix-n1
-array-borrow-prefix-n1 c = few (c .before .before .before .before .before .before .before)
+array-borrow-prefix-n1 c = few (entry (c .before .before))
 
 slice-aggregate-take-through-4 : tie.Need-slice-aggregate-take-through-4
-slice-aggregate-take-through-4 c = sym (length-take-le _ _ (few (c .before .before .before .before .before .before .before .before)))
+slice-aggregate-take-through-4 c = sym (length-take-le _ _ (few (entry (classes c))))
 
 array-borrow-prefix-losses : tie.Need-array-borrow-prefix-losses
-array-borrow-prefix-losses c = few (c .before .before .before .before .before .before .before .before)
+array-borrow-prefix-losses c = few (entry (classes c))
 
 slice-aggregate-take-through-5 : tie.Need-slice-aggregate-take-through-5
-slice-aggregate-take-through-5 c = sym (length-take-le _ _ (few (c .before .before .before .before .before .before .before .before .before)))
+slice-aggregate-take-through-5 c = sym (length-take-le _ _ (few (entry (classes (c .before)))))
 
 array-borrow-prefix-step-down : tie.Need-array-borrow-prefix-step-down
-array-borrow-prefix-step-down c = few (c .before .before .before .before .before .before .before .before .before)
+array-borrow-prefix-step-down c = few (entry (classes (c .before)))
 
 slice-aggregate-take-through-6 : tie.Need-slice-aggregate-take-through-6
-slice-aggregate-take-through-6 c = sym (length-take-le _ _ (few (c .before .before .before .before .before .before .before .before .before .before)))
+slice-aggregate-take-through-6 c = sym (length-take-le _ _ (few (entry (classes (c .before .before)))))
 
 array-borrow-prefix-step-up : tie.Need-array-borrow-prefix-step-up
-array-borrow-prefix-step-up c = few (c .before .before .before .before .before .before .before .before .before .before)
+array-borrow-prefix-step-up c = few (entry (classes (c .before .before)))
 
 slice-aggregate-take-through-7 : tie.Need-slice-aggregate-take-through-7
-slice-aggregate-take-through-7 c = sym (length-take-le _ _ (few (c .before .before .before .before .before .before .before .before .before .before .before)))
+slice-aggregate-take-through-7 c = sym (length-take-le _ _ (few (entry (classes (c .before .before .before)))))
 
 take-through-requires : tie.Need-take-through-requires
 take-through-requires c κs =
-    let start = c .before .before .before .before .before .before .before .before .before .before .before in
+    let start = entry (classes (c .before .before .before)) in
     let n = ap (λ (g : GroupRecord). g .count) (start .pre .1) in
     let k = few start in (
       start .pre,

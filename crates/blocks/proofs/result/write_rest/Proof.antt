@@ -18,7 +18,7 @@ direction-requires c κs = search needs
 
 -- what stood before step 2, and where its direction is known
 abbrev entry : tie.After-direction → tie.Start
-entry c = c .before .before .before .before .before .before
+entry c = let known = c .before .before .before .before .before in known .before
 
 abbrev turned-of : tie.After-steps-all → tie.After-direction
 turned-of c = c .before .before .before .before
@@ -38,24 +38,24 @@ steps-all-requires c κs =
     (losing w, (aligned w (left-is turned), explained w (left-is turned)))
 
 -- what stood before the units were laid
-abbrev done-of : tie.After-lay-unit-results → tie.After-steps-all
-done-of c = c .before .before .before .before .before .before .before .before .before
+abbrev done-of : tie.After-lay-unit-results-arg4 → tie.After-steps-all
+done-of c = let back = c .before .before .before .before .before in back .before .before .before
 
 abbrev laid-of : tie.After-slice-known5 → tie.After-lay-unit-results
-laid-of c = c .before .before .before .before .before .before .before
+laid-of c = let held = c .before .before .before .before .before in held .before .before
 
 second-is : (c : tie.After-steps-all) → let a = entry (turned-of c) .args in c .steps-all .last .1 .1 .1 .1 .0 ≡ leftBy (directionOf (a .cut .e)) (now (a .n1)) (now (a .losses))
 second-is c = c .steps-all .ensures .0 ∙ left-is (turned-of c)
 
 lay-unit-results-requires : tie.Need-lay-unit-results-requires
 lay-unit-results-requires c κs =
-    let done = c .before .before .before .before .before .before .before .before in
+    let done = done-of c in
     let e = done .steps-all .ensures in
     laying (entry (turned-of done) .pre) (second-is done) (e .1) (e .2) (e .3)
 
 summed-requires : tie.Need-summed-requires
 summed-requires c κs =
-    let done = done-of (c .before .before .before) in
+    let done = done-of (c .before .before .before .before) in
     let e = done .steps-all .ensures in
     let s3 : toZ w32 (ofZ w32 (done .steps-all .result)) ≡ done .steps-all .result = search needs in
     summable (entry (turned-of done) .pre) (second-is done) (s3 ∙ e .1) (e .2)
@@ -63,7 +63,7 @@ summed-requires c κs =
 lay-group-result-requires : tie.Need-lay-group-result-requires
 lay-group-result-requires c κs =
     let laid = c .before .before .before .before in
-    let w = entry (turned-of (done-of laid)) .pre in
+    let w = entry (turned-of (done-of (laid .before))) .pre in
     (w .passed .long, omega (arith, laid .lay-unit-results .kept, w .enough))
 
 same-length : tie.Need-same-length
@@ -72,17 +72,17 @@ same-length c =
 
 same-length-2 : tie.Need-same-length-2
 same-length-2 c =
-    let done = done-of (laid-of c) in
+    let done = done-of (laid-of c .before) in
     done .steps-all .kept .1 .1 .1 .1 .1 .1 .0
 
 same-length-3 : tie.Need-same-length-3
 same-length-3 c =
-    let done = done-of (laid-of c) in
+    let done = done-of (laid-of c .before) in
     done .steps-all .kept .1 .1 .1 .1 .0
 
 same-length-4 : tie.Need-same-length-4
 same-length-4 c =
-    let done = done-of (laid-of c) in
+    let done = done-of (laid-of c .before) in
     done .steps-all .kept .1 .1 .1 .1 .1 .0
 
 returns : tie.Need-returns
@@ -90,7 +90,7 @@ returns c =
     let group = c .before .before in
     let sums = group .before in
     let laid = laid-of c in
-    let done = done-of laid in
+    let done = done-of (laid .before) in
     let e = done .steps-all .ensures in
     let s3 : toZ w32 (ofZ w32 (done .steps-all .result)) ≡ done .steps-all .result = search needs in
     written (entry (turned-of done) .pre) (second-is done) (s3 ∙ e .1) (e .2) (e .3) (sums .summed .ensures) (laid .lay-unit-results .ensures) (group .lay-group-result .ensures)

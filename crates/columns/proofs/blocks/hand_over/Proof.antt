@@ -92,10 +92,11 @@ part-write-body-end c = search needs
 
 write-body-requires : tie.Need-write-body-requires
 write-body-requires c κs =
-    let e = c .before .before .before .before .before .before .before .before .before in
-    let b = c .before .before .before .before .before .before .before .before .before .before .before in
-    let units = c .before .before .before .before .before .before .before .before .before .before .before .before in
-    (omega arith, ((b .ends-at .ensures .1, e .ends-at2 .ensures .1), ((units .length-at .ensures, (b .ends-at .ensures .0, (omega (arith, e .ends-at2 .ensures .0, c .before .before .before .before .before .before .before .before .before .before .length-at2 .ensures), c .before .before .before .before .before .before .before .before .length-at3 .ensures))), ((c .before .before .before .before .before .before .before .length-at4 .ensures, (c .before .before .before .before .before .before .length-at5 .ensures, c .before .before .before .before .before .length-at6 .ensures)), omega (arith, c .before .before .if3 .left)))))
+    let told = c .before .before .before .before .before in
+    let e = told .before .before .before .before in
+    let b = e .before .before in
+    let units = b .before in
+    (omega arith, ((b .ends-at .ensures .1, e .ends-at2 .ensures .1), ((units .length-at .ensures, (b .ends-at .ensures .0, (omega (arith, e .ends-at2 .ensures .0, e .before .length-at2 .ensures), told .before .before .before .length-at3 .ensures))), ((told .before .before .length-at4 .ensures, (told .before .length-at5 .ensures, told .length-at6 .ensures)), omega (arith, c .before .before .if3 .left)))))
 
 same-length : tie.Need-same-length
 same-length c = search needs

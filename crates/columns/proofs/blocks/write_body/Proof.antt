@@ -6,6 +6,10 @@ use borrow.Author.Needs.{needs}
 use Rattle.columns.proofs.blocks.write_body.Statement.{statement}
 use Rattle.columns.proofs.blocks.write_body.Tie as tie
 
+-- what stood before the columns were read
+abbrev entry : tie.After-entries → tie.Start
+entry c = let signed = c .before .before .before .before .before in signed .before .before .before .before .before
+
 halves-at-requires : tie.Need-halves-at-requires
 halves-at-requires c κs = search needs
 
@@ -80,22 +84,22 @@ array-share-prefix-below c = search needs
 
 slice-aggregate-write-columns-4 : tie.Need-slice-aggregate-write-columns-4
 slice-aggregate-write-columns-4 c =
-    let few = c .before .before .before .before .before .before .before .before .before .before .before .before .before .pre .1 .1 .1 .0 in
+    let few = entry (c .before .before .before) .pre .1 .1 .1 .0 in
     sym (length-take-le _ _ (omega (arith, few .1 .0)))
 
 array-share-prefix-above : tie.Need-array-share-prefix-above
 array-share-prefix-above c =
-    let few = c .before .before .before .before .before .before .before .before .before .before .before .before .before .pre .1 .1 .1 .0 in
+    let few = entry (c .before .before .before) .pre .1 .1 .1 .0 in
     omega (arith, few .1 .1)
 
 slice-aggregate-write-columns-5 : tie.Need-slice-aggregate-write-columns-5
 slice-aggregate-write-columns-5 c =
-    let few = c .before .before .before .before .before .before .before .before .before .before .before .before .before .before .pre .1 .1 .1 .0 in
+    let few = entry (c .before .before .before .before) .pre .1 .1 .1 .0 in
     sym (length-take-le _ _ (omega (arith, few .1 .1)))
 
 write-columns-requires : tie.Need-write-columns-requires
 write-columns-requires c κs =
-    let start = c .before .before .before .before .before .before .before .before .before .before .before .before .before .before .before in
+    let start = entry (c .before .before .before .before .before) in
     let asked = start .pre .1 .0 in
     (start .pre .0, ((asked .0, omega (arith, start .pre .1 .1 .1 .1)), (asked .1, sym (slice-aggregate-write-columns-2 (c .before .before .before .before .before)))))
 

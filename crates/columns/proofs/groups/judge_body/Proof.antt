@@ -31,7 +31,9 @@ part-judge-entries-end : tie.Need-part-judge-entries-end
 part-judge-entries-end c = search needs
 
 judge-entries-requires : tie.Need-judge-entries-requires
-judge-entries-requires c κs = (c .before .before .before .before .before .before .before .pre .1 .0, length-take-le _ _ (omega arith))
+judge-entries-requires c κs =
+    let entries = c .before .before .before .before in
+    (entries .before .before .before .pre .1 .0, length-take-le _ _ (omega arith))
 
 same-length : tie.Need-same-length
 same-length c = search needs

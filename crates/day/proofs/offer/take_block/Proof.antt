@@ -35,9 +35,10 @@ returns c =
 take-units-requires : tie.Need-take-units-requires
 take-units-requires c κs =
     let g = c .before .before in
-    let start = g .before .before .before .before .before .before in
+    let read = g .before .before in
+    let start = read .before .before .before .before in
     let x = start .args in
-    let e = sym (g .before .before .group-fields .ensures) ∙ ap groupReply (g .g .given .1) in
+    let e = sym (read .group-fields .ensures) ∙ ap groupReply (g .g .given .1) in
     let p = group-passed (now (x .s)) (x .day .«record») (x .day .last) e in
     (record { long = start .pre .0; few = p .most }, p .value)
 
@@ -59,9 +60,10 @@ returns-2 c =
     let told = c .before in
     let took = told .before .before .before .before in
     let g = took .before .before .before in
-    let start = g .before .before .before .before .before .before in
+    let read = g .before .before in
+    let start = read .before .before .before .before in
     let x = start .args in
-    let e = sym (g .before .before .group-fields .ensures) ∙ ap groupReply (g .g .given .1) in
+    let e = sym (read .group-fields .ensures) ∙ ap groupReply (g .g .given .1) in
     let t = took .take-units .ensures in
     let f = told .enum-told2 .given .1 in
     let right = block-then (x .day) (now (x .s)) _ (now (x .room)) e in
@@ -72,7 +74,9 @@ counted-requires : tie.Need-counted-requires
 counted-requires c κs = search needs
 
 same-length-2 : tie.Need-same-length-2
-same-length-2 c = c .before .before .before .before .before .before .before .take-units .kept .1 .1 .1 .0
+same-length-2 c =
+    let known = c .before .before .before in
+    known .before .before .before .before .take-units .kept .1 .1 .1 .0
 
 returns-3 : tie.Need-returns-3
 unfolding next blockAfter
@@ -80,9 +84,10 @@ returns-3 c =
     let known = c .before .before .before in
     let took = known .before .before .before .before in
     let g = took .before .before .before in
-    let start = g .before .before .before .before .before .before in
+    let read = g .before .before in
+    let start = read .before .before .before .before in
     let x = start .args in
-    let e = sym (g .before .before .group-fields .ensures) ∙ ap groupReply (g .g .given .1) in
+    let e = sym (read .group-fields .ensures) ∙ ap groupReply (g .g .given .1) in
     let t = took .take-units .ensures in
     let right = block-then (x .day) (now (x .s)) _ (now (x .room)) e in
     let yes = rw (known .b .given .1) at (t .replied) in

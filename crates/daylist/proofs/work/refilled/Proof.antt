@@ -22,8 +22,9 @@ same-length c = search needs
 
 returns : tie.Need-returns
 returns c =
-    let got = c .before .before .read-more in
-    let s = c .before .before .before .before .before .before in
+    let read = c .before .before in
+    let got = read .read-more in
+    let s = read .before .before .before .before in
     (behind (s .pre .0) (s .pre .1 .0) _ (omega arith) (got .ensures .0), got .ensures .1)
 
 move-front-requires : tie.Need-move-front-requires
@@ -46,8 +47,9 @@ same-length-2 c = search needs
 
 returns-2 : tie.Need-returns-2
 returns-2 c =
-    let got = c .before .before .read-more2 in
-    let put = c .before .before .before .before .before .before in
+    let read = c .before .before in
+    let got = read .read-more2 in
+    let put = read .before .before .before .before in
     let s = put .before .before .before .before in
     (behind-moved (s .pre .0) (s .pre .1 .0) _ (put .move-front .result) _ (put .move-front .ensures .0) (put .move-front .ensures .1) (omega arith) (got .ensures .0), got .ensures .1)
 

@@ -30,23 +30,33 @@ returns-6 c = simp (le-ltb _ _ (c .before .before .before .before .before .if1 .
 
 returns-7 : tie.Need-returns-7
 unfolding unitFieldAt
-returns-7 c = simp (le-ltb _ _ (c .before .before .before .before .before .before .if1 .left), le-ltb _ _ (c .before .before .before .before .before .if2 .left), le-ltb _ _ (c .before .before .before .before .if3 .left), le-ltb _ _ (c .before .before .before .if4 .left), le-ltb _ _ (c .before .before .if5 .left), le-ltb _ _ (c .before .if6 .left), lt-ltb _ _ (c .if7 .taken))
+returns-7 c =
+    let past-five = c .before .before in
+    simp (le-ltb _ _ (past-five .before .before .before .before .if1 .left), le-ltb _ _ (past-five .before .before .before .if2 .left), le-ltb _ _ (past-five .before .before .if3 .left), le-ltb _ _ (past-five .before .if4 .left), le-ltb _ _ (past-five .if5 .left), le-ltb _ _ (c .before .if6 .left), lt-ltb _ _ (c .if7 .taken))
 
 returns-8 : tie.Need-returns-8
 unfolding unitFieldAt
-returns-8 c = simp (le-ltb _ _ (c .before .before .before .before .before .before .before .if1 .left), le-ltb _ _ (c .before .before .before .before .before .before .if2 .left), le-ltb _ _ (c .before .before .before .before .before .if3 .left), le-ltb _ _ (c .before .before .before .before .if4 .left), le-ltb _ _ (c .before .before .before .if5 .left), le-ltb _ _ (c .before .before .if6 .left), le-ltb _ _ (c .before .if7 .left), lt-ltb _ _ (c .if8 .taken))
+returns-8 c =
+    let past-five = c .before .before .before in
+    simp (le-ltb _ _ (past-five .before .before .before .before .if1 .left), le-ltb _ _ (past-five .before .before .before .if2 .left), le-ltb _ _ (past-five .before .before .if3 .left), le-ltb _ _ (past-five .before .if4 .left), le-ltb _ _ (past-five .if5 .left), le-ltb _ _ (c .before .before .if6 .left), le-ltb _ _ (c .before .if7 .left), lt-ltb _ _ (c .if8 .taken))
 
 returns-9 : tie.Need-returns-9
 unfolding unitFieldAt
-returns-9 c = simp (le-ltb _ _ (c .before .before .before .before .before .before .before .before .if1 .left), le-ltb _ _ (c .before .before .before .before .before .before .before .if2 .left), le-ltb _ _ (c .before .before .before .before .before .before .if3 .left), le-ltb _ _ (c .before .before .before .before .before .if4 .left), le-ltb _ _ (c .before .before .before .before .if5 .left), le-ltb _ _ (c .before .before .before .if6 .left), le-ltb _ _ (c .before .before .if7 .left), le-ltb _ _ (c .before .if8 .left), lt-ltb _ _ (c .if9 .taken))
+returns-9 c =
+    let past-five = c .before .before .before .before in
+    simp (le-ltb _ _ (past-five .before .before .before .before .if1 .left), le-ltb _ _ (past-five .before .before .before .if2 .left), le-ltb _ _ (past-five .before .before .if3 .left), le-ltb _ _ (past-five .before .if4 .left), le-ltb _ _ (past-five .if5 .left), le-ltb _ _ (c .before .before .before .if6 .left), le-ltb _ _ (c .before .before .if7 .left), le-ltb _ _ (c .before .if8 .left), lt-ltb _ _ (c .if9 .taken))
 
 returns-10 : tie.Need-returns-10
 unfolding unitFieldAt
-returns-10 c = simp (le-ltb _ _ (c .before .before .before .before .before .before .before .before .before .if1 .left), le-ltb _ _ (c .before .before .before .before .before .before .before .before .if2 .left), le-ltb _ _ (c .before .before .before .before .before .before .before .if3 .left), le-ltb _ _ (c .before .before .before .before .before .before .if4 .left), le-ltb _ _ (c .before .before .before .before .before .if5 .left), le-ltb _ _ (c .before .before .before .before .if6 .left), le-ltb _ _ (c .before .before .before .if7 .left), le-ltb _ _ (c .before .before .if8 .left), le-ltb _ _ (c .before .if9 .left), lt-ltb _ _ (c .if10 .taken))
+returns-10 c =
+    let past-five = c .before .before .before .before .before in
+    simp (le-ltb _ _ (past-five .before .before .before .before .if1 .left), le-ltb _ _ (past-five .before .before .before .if2 .left), le-ltb _ _ (past-five .before .before .if3 .left), le-ltb _ _ (past-five .before .if4 .left), le-ltb _ _ (past-five .if5 .left), le-ltb _ _ (c .before .before .before .before .if6 .left), le-ltb _ _ (c .before .before .before .if7 .left), le-ltb _ _ (c .before .before .if8 .left), le-ltb _ _ (c .before .if9 .left), lt-ltb _ _ (c .if10 .taken))
 
 returns-11 : tie.Need-returns-11
 unfolding unitFieldAt
-returns-11 c = simp (le-ltb _ _ (c .before .before .before .before .before .before .before .before .before .if1 .left), le-ltb _ _ (c .before .before .before .before .before .before .before .before .if2 .left), le-ltb _ _ (c .before .before .before .before .before .before .before .if3 .left), le-ltb _ _ (c .before .before .before .before .before .before .if4 .left), le-ltb _ _ (c .before .before .before .before .before .if5 .left), le-ltb _ _ (c .before .before .before .before .if6 .left), le-ltb _ _ (c .before .before .before .if7 .left), le-ltb _ _ (c .before .before .if8 .left), le-ltb _ _ (c .before .if9 .left), le-ltb _ _ (c .if10 .left))
+returns-11 c =
+    let past-five = c .before .before .before .before .before in
+    simp (le-ltb _ _ (past-five .before .before .before .before .if1 .left), le-ltb _ _ (past-five .before .before .before .if2 .left), le-ltb _ _ (past-five .before .before .if3 .left), le-ltb _ _ (past-five .before .if4 .left), le-ltb _ _ (past-five .if5 .left), le-ltb _ _ (c .before .before .before .before .if6 .left), le-ltb _ _ (c .before .before .before .if7 .left), le-ltb _ _ (c .before .before .if8 .left), le-ltb _ _ (c .before .if9 .left), le-ltb _ _ (c .if10 .left))
 
 pub unit-field-at-spec : {M : Type 1} → statement M
 unit-field-at-spec =

@@ -80,7 +80,8 @@ loop-again : tie.Need-loop-again Inv-loop μ-loop
 loop-again c =
     let length = c .before in
     let v = length .before .before .loop in
-    let a = length .before .before .before .before .before .before .before .before .args in
+    let read = length .before .before .before in
+    let a = read .before .before .before .before .before .args in
     rw (length .unit-length .ensures)
     (turn (now (a .s)) (a .place) _ (v .before) (v .at) (v .index) (v .inv) (length .before .loop-test .taken) (omega (arith, c .if3 .left, length .unit-length .ensures)))
 

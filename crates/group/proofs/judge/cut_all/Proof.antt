@@ -29,7 +29,7 @@ s1-is c =
     let f : SFits w32 (c .step1-all .result) = record { sfits = c .step1-all .ok } in
     toZ-ofZ f ∙ c .step1-all .ensures .0
 
-e-is : (c : tie.After-excess) → let a = c .before .before .before .before .before .before .before .args in
+e-is : (c : tie.After-excess) → let first = c .before .before in let a = first .before .before .before .before .before .args in
     toZ w32 (ofZ w32 (c .excess .result)) ≡ excessOf (bandOf (a .p .0)) (sumZ (step1All (now (a .n0)) (now (a .step-down)) (now (a .step-up))))
 e-is c =
     let first = c .before .before in

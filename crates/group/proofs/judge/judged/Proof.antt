@@ -19,12 +19,14 @@ array-borrow-prefix-why c = search needs
 
 slice-aggregate-judged-through-2 : tie.Need-slice-aggregate-judged-through-2
 slice-aggregate-judged-through-2 c =
-    let s = c .before .before .before .before .before .before in
+    let losses = c .before in
+    let s = losses .before .before .before .before .before in
     sym (length-take-le _ _ (s .pre .0 .few))
 
 judged-through-requires : tie.Need-judged-through-requires
 judged-through-requires c κs =
-    let s = c .before .before .before .before .before .before in
+    let losses = c .before in
+    let s = losses .before .before .before .before .before in
     let z = zeros-taken _ 64 (s .pre .0 .few) in
     (s .pre .0, (s .pre .1, (z, z)))
 

@@ -19,19 +19,19 @@ use Rattle.group.proofs.judge.judged_through.Statement.{statement}
 
 -- what stood before step 1; where the direction is known, what step 1 left and the units lose, and the margins that were copied; and where steps 2 and 3 are done, the direction
 abbrev entry : tie.After-cut-all → tie.Start
-entry c = c .before .before .before .before .before .before
-
-abbrev cut-of : tie.After-direction → tie.After-cut-all
-cut-of c = c .before .before .before .before .before .before .before .before .before .before .before
-
-abbrev down-of : tie.After-direction → tie.After-copy
-down-of c = c .before .before .before .before .before .before
+entry c = let lent = c .before .before .before .before .before in lent .before
 
 abbrev up-of : tie.After-direction → tie.After-copy2
 up-of c = c .before .before .before
 
+abbrev down-of : tie.After-direction → tie.After-copy
+down-of c = up-of c .before .before .before
+
+abbrev cut-of : tie.After-direction → tie.After-cut-all
+cut-of c = down-of c .before .before .before .before .before
+
 abbrev turned-of : tie.After-steps-all → tie.After-direction
-turned-of c = c .before .before .before .before .before .before
+turned-of c = let lent = c .before .before .before .before .before in lent .before
 
 cut-all-requires : tie.Need-cut-all-requires
 cut-all-requires c κs = search needs
@@ -43,7 +43,8 @@ copy-requires c κs =
 
 copy-requires-2 : tie.Need-copy-requires-2
 copy-requires-2 c κs =
-    let s = entry (c .before .before .before .before .before .before .before) in
+    let down = c .before .before in
+    let s = entry (down .before .before .before .before .before) in
     s .pre .1 .0 .0 ∙ sym (s .pre .0 .ups)
 
 direction-requires : tie.Need-direction-requires

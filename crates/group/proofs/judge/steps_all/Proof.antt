@@ -70,7 +70,7 @@ abbrev start-of : tie.In-loop Inv-loop μ-loop → tie.Start Inv-loop μ-loop
 start-of c = c .before .before .before .before
 
 abbrev turn-of : tie.After-step3 Inv-loop μ-loop → tie.In-loop Inv-loop μ-loop
-turn-of c = c .before .before .before .before .before .before
+turn-of c = let second = c .before in second .before .before .before .before .before
 
 loop-holds : tie.Need-loop-holds Inv-loop μ-loop
 loop-holds c = (filled-start _ _ _, run-start _ _ _, filled-start _ _ _)
@@ -133,7 +133,7 @@ margins-are c =
     (filled-next (l .loop .inv .1 .places) (h .down ∙ lent-length s) (pos 0) t, filled-next (l .loop .inv .0) (h .up ∙ lent-length s) (pos 0) t)
 
 -- what is stored at a turn is step 2 of its unit, and step 3
-second-is : (c : tie.After-nearer Inv-loop μ-loop) → let l = c .before .before .before .before .before .before in let a = l .before .before .before .args in
+second-is : (c : tie.After-nearer Inv-loop μ-loop) → let read = c .before .before in let l = read .before .before .before .before in let a = l .before .before .before .args in
     toZ w32 (ofZ w32 (c .nearer .result)) ≡ leftAt (a .d) (now (a .n1)) (now (a .losses)) (l .loop .i)
 second-is c =
     let read = c .before .before in

@@ -23,7 +23,7 @@ high-is c =
     (λ w. rw (w .1) (simp (simp (d, n) at (w .0 .left), n)))
     (c .if1 .came)
 
-low-is : (c : tie.Joined2) → let a = c .before .before .before .before .before .before .args in toZ w32 (c .if2 .low) ≡ pick (ltZ (a .m .«step_up») (a .n2)) (a .m .«step_up») (a .n2)
+low-is : (c : tie.Joined2) → let test1 = c .before .before .before in let a = test1 .before .before .before .args in toZ w32 (c .if2 .low) ≡ pick (ltZ (a .m .«step_up») (a .n2)) (a .m .«step_up») (a .n2)
 low-is c =
     let test1 = c .before .before .before in
     let s = test1 .before .before .before in

@@ -19,7 +19,8 @@ add-lay-few c = search needs
 
 lay-few-requires : tie.Need-lay-few-requires
 lay-few-requires c κs =
-    let s = c .before .before .before .before .before .before .before in
+    let spaced = c .before .before .before in
+    let s = spaced .before .before .before .before in
     (s .pre .0, (omega (arith, s .pre .1 .0, no-more 3 (s .args .size) (s .pre .0)), s .pre .1 .1))
 
 same-length : tie.Need-same-length

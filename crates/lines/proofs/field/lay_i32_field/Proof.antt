@@ -26,7 +26,8 @@ add-lay-number c = search needs
 
 lay-number-requires : tie.Need-lay-number-requires
 lay-number-requires c κs =
-    let m = c .before .before .before .before .before .before in
+    let spaced = c .before .before .before in
+    let m = spaced .before .before .before in
     let s = m .before .before .before in
     (omega (arith, s .pre .0, no-more 9 (m .magnitude .result) (omega arith)), s .pre .1)
 

@@ -48,8 +48,9 @@ same-length-2 c = search needs
 returns-2 : tie.Need-returns-2
 returns-2 c =
     let put = c .before .before in
-    let read = put .before .from-bits in
-    let a = put .before .before .before .before .before .before .args in
+    let bits = put .before in
+    let read = bits .from-bits in
+    let a = bits .before .before .before .before .before .args in
     let h : SFits w32 (read .result) = record { sfits = read .ok } in
     let e : read .result ≡ signed32 (a .bits) = read .ensures in
     rw (toZ-ofZ h, e) at (put .lay-i32-field .ensures)

@@ -55,8 +55,9 @@ same-length-2 c = search needs
 
 returns-2 : tie.Need-returns-2
 returns-2 c =
-    let put = c .before .before .lay-number in
-    let s = c .before .before .before .before .before .before .before in
+    let laid = c .before .before in
+    let put = laid .lay-number in
+    let s = laid .before .before .before .before .before in
     let a = s .args in
     let h : a .n < 1000 = omega arith in
     within (now (a .out)) (a .at) (1 + length (decimal (a .n))) u8Field (put .result) (omega (arith, no-more 2 (a .n) h)) (put .ensures)

@@ -11,6 +11,16 @@ use borrow.Author.Needs.{needs}
 use Rattle.lines.proofs.lines.lay_four.Statement.{statement}
 use Rattle.lines.proofs.lines.lay_four.Tie as tie
 
+-- what stood before the first was laid, and where the first and the second were
+abbrev entry : tie.After-lay-few → tie.Start
+entry c = c .before .before .before .before
+
+abbrev first-laid : tie.After-lay-few2 → tie.After-lay-few
+first-laid c = c .before .before .before .before
+
+abbrev second-laid : tie.After-lay-few3 → tie.After-lay-few2
+second-laid c = c .before .before .before .before
+
 lay-few-requires : tie.Need-lay-few-requires
 lay-few-requires c κs =
     let s = c .before .before .before in
@@ -18,17 +28,17 @@ lay-few-requires c κs =
 
 lay-few-requires-2 : tie.Need-lay-few-requires-2
 lay-few-requires-2 c κs =
-    let s = c .before .before .before .before .before .before .before in
+    let s = entry (c .before .before .before) in
     (s .pre .0, (omega (arith, s .pre .1 .0, no-more 3 (s .args .n) (s .pre .0)), s .pre .1 .1))
 
 lay-few-requires-3 : tie.Need-lay-few-requires-3
 lay-few-requires-3 c κs =
-    let s = c .before .before .before .before .before .before .before .before .before .before .before in
+    let s = entry (first-laid (c .before .before .before)) in
     (s .pre .0, (omega (arith, s .pre .1 .0, no-more 3 (s .args .n) (s .pre .0)), s .pre .1 .1))
 
 lay-few-requires-4 : tie.Need-lay-few-requires-4
 lay-few-requires-4 c κs =
-    let s = c .before .before .before .before .before .before .before .before .before .before .before .before .before .before .before in
+    let s = entry (first-laid (second-laid (c .before .before .before))) in
     (s .pre .0, (omega (arith, s .pre .1 .0, no-more 3 (s .args .n) (s .pre .0)), s .pre .1 .1))
 
 same-length : tie.Need-same-length
@@ -38,9 +48,9 @@ returns : tie.Need-returns
 returns c =
     let fourth = c .before .before in
     let third = fourth .before .before .before .before in
-    let second = third .before .before .before .before in
-    let first = second .before .before .before .before in
-    let s = first .before .before .before .before in
+    let second = second-laid third in
+    let first = first-laid second in
+    let s = entry first in
     let a = s .args in
     let out = now (a .out) in
     let most = 1 + length (decimal (a .n)) in

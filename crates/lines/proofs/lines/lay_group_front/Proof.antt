@@ -9,6 +9,16 @@ use borrow.Author.Needs.{needs}
 use Rattle.lines.proofs.lines.lay_group_front.Statement.{statement}
 use Rattle.lines.proofs.lines.lay_group_front.Tie as tie
 
+-- where the fields before the verdict were laid, and what stood before
+abbrev entry : tie.After-lay-u8-field3 → tie.Start
+entry c =
+    let quarter = c .before .before .before .before .before in
+    let zone = quarter .before .before .before .before .before in
+    let party = zone .before .before .before .before .before in
+    let word = party .before .before .before .before in
+    let number = word .before .before .before in
+    number .before .before .before .before
+
 u16-at-requires : tie.Need-u16-at-requires
 u16-at-requires c κs = search needs
 
@@ -41,7 +51,7 @@ lay-u8-field-requires-3 c κs = search needs
 
 shared-slice-read-lay-u8-field-4 : tie.Need-shared-slice-read-lay-u8-field-4
 shared-slice-read-lay-u8-field-4 c =
-    let s = c .before .before .before .before .before .before .before .before .before .before .before .before .before .before .before .before .before .before .before .before .before .before .before .before .before .before .before .before .before .before in
+    let s = entry (c .before .before .before .before) in
     omega (arith, s .pre .1 .0)
 
 lay-u8-field-requires-4 : tie.Need-lay-u8-field-requires-4
@@ -51,7 +61,7 @@ lay-u8-field-requires-4 c κs =
     let zone = quarter .before .before .before .before .before in
     let party = zone .before .before .before .before .before in
     let word = party .before .before .before .before in
-    let s = word .before .before .before .before .before .before .before in
+    let s = entry verdict in
     let out = now (s .args .out) in
     let i = s .args .at in
     let q1 = then out i 5 u16Field (word .lay-word .result) (party .lay-u16-field .result) (omega (arith, s .pre .1 .1)) (word .lay-word .ensures) (party .lay-u16-field .ensures) in

@@ -40,7 +40,8 @@ returns : tie.Need-returns
 unfolding resultLines groupResultAt
 returns c =
     let put = c .before .before in
-    let front = put .before .before .before .before .before .before in
+    let lent = put .before .before .before in
+    let front = lent .before .before .before in
     let s = front .before .before .before .before .before in
     let a = s .args in
     let out = now (a .out) in

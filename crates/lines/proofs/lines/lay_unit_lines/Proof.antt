@@ -23,21 +23,24 @@ loop-holds c =
 
 mul-lay-unit-line : tie.Need-mul-lay-unit-line Inv-loop μ-loop
 mul-lay-unit-line c =
-    let start = c .before .before .before .before .before .before in
-    let t = c .before .loop-test .taken in
+    let test = c .before in
+    let start = test .before .before .before .before .before in
+    let t = test .loop-test .taken in
     omega (arith, start .pre .1 .0)
 
 add-lay-unit-line : tie.Need-add-lay-unit-line Inv-loop μ-loop
 add-lay-unit-line c =
-    let start = c .before .before .before .before .before .before in
-    let t = c .before .loop-test .taken in
+    let test = c .before in
+    let start = test .before .before .before .before .before in
+    let t = test .loop-test .taken in
     omega (arith, start .pre .1 .0)
 
 lay-unit-line-requires : tie.Need-lay-unit-line-requires Inv-loop μ-loop
 lay-unit-line-requires c κs =
-    let t = c .before .loop-test .taken in
-    let l = c .before .before .loop in
-    let s = c .before .before .before .before .before .before in
+    let test = c .before in
+    let t = test .loop-test .taken in
+    let l = test .before .loop in
+    let s = test .before .before .before .before .before in
     let a = s .args in
     let u = up-to (now (a .out)) (a .at) (longestUnitLine * l .i) (l .here) (l .inv .1) in
     let k = still (now (a .out)) (a .at) (longestUnitLine * l .i) (l .here) (omega (arith, s .pre .1 .1 .1)) (l .inv .1) in

@@ -34,7 +34,8 @@ add-lay-u8 c = search needs
 
 cast-lay-u8-2 : tie.Need-cast-lay-u8-2
 cast-lay-u8-2 c =
-    let s = c .before .before .before .before .before .before .before .before in
+    let first = c .before .before .before in
+    let s = first .before .before .before .before .before in
     let a = s .args in
     let e : getD (now (a .pairs)) (a .k) 0 ≡ pairOf (a .k) = ap (λ (l : List ℕ). getD l (a .k) 0) (s .pre .1 .1) ∙ pair-at (a .k) (s .pre .0) in
     omega (arith, s .pre .0)

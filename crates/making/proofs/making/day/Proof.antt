@@ -24,8 +24,9 @@ same-length c = search needs
 returns : tie.Need-returns
 unfolding dayTurn
 returns c =
-    let h : c .before .before .before .before .before .before .before .args .d .quarters < 2 ^ hbits w32 = omega arith in
-    let wrote = c .before .before .before .before .write-day .ensures in
+    let written = c .before .before .before .before in
+    let h : written .before .before .before .args .d .quarters < 2 ^ hbits w32 = omega arith in
+    let wrote = written .write-day .ensures in
     record { answered = simp (toZ-pos w32) at (rw (wrote .replied) at (c .written .ensures)); left = wrote .room }
 
 pub day-spec : {M : Type 1} → statement M

@@ -46,8 +46,9 @@ loop-less c = search needs
 
 loop-again : tie.Need-loop-again Inv-loop μ-loop
 loop-again c =
-    let l = c .before .before .before .loop in
-    let start = c .before .before .before .before .before .before .before .before in
+    let turn = c .before .before .before in
+    let l = turn .loop in
+    let start = turn .before .before .before .before .before in
     (omega arith, (simp length-set (l .inv .1 .0), rw (c .shown .ensures, l .inv .1 .1) (column-more (shownAt (now (start .args .word))) (l .i) (now (start .args .room)) 0 (omega arith))))
 
 same-length : tie.Need-same-length Inv-loop μ-loop

@@ -40,8 +40,10 @@ returns : tie.Need-returns
 unfolding keyWords
 returns c =
     let last = c .before .before in
-    let mid = last .before .before .before .before .before .before in
-    let first = mid .before .before .before .before .before .before in
+    let zone = last .before .before .before .before in
+    let mid = zone .before .before in
+    let brp = mid .before .before .before .before in
+    let first = brp .before .before in
     let pre = first .before .before .before .before .before .pre in
     and (and (first .lay-numbered .ensures) (mid .lay-numbered2 .ensures) (omega (arith, pre))) (last .lay-numbered3 .ensures) (omega (arith, pre))
 

@@ -41,41 +41,46 @@ wrong-requires c κs = search needs
 
 returns-2 : tie.Need-returns-2
 returns-2 c =
-    let call = c .before .before .before .before .before .before in
+    let known = c .before .before .before .before in
+    let call = known .before .before in
     let a = call .before .before .args in
     let s = now (a .s) in
-    let w = whole s (a .at) 44 mwhCap (sym (call .numeral-at .ensures) ∙ ap heldReply (c .before .before .before .before .answer .given .1)) in
+    let w = whole s (a .at) 44 mwhCap (sym (call .numeral-at .ensures) ∙ ap heldReply (known .answer .given .1)) in
     rw (c .wrong .ensures) (sym (amount-wrong s (a .at) _ w (rw (c .before .before .decimals-at .ensures) at (c .before .if1 .taken))))
 
 mul-t9 : tie.Need-mul-t9
 mul-t9 c =
-    let call = c .before .before .before .before .before .before in
+    let known = c .before .before .before .before in
+    let call = known .before .before in
     let a = call .before .before .args in
     let s = now (a .s) in
-    let w = whole s (a .at) 44 mwhCap (sym (call .numeral-at .ensures) ∙ ap heldReply (c .before .before .before .before .answer .given .1)) in
+    let w = whole s (a .at) 44 mwhCap (sym (call .numeral-at .ensures) ∙ ap heldReply (known .answer .given .1)) in
     omega (arith, w .value, least-most mwhCap (w .one .value))
 
 add-t10 : tie.Need-add-t10
 add-t10 c =
-    let call = c .before .before .before .before .before .before in
+    let known = c .before .before .before .before in
+    let call = known .before .before in
     let a = call .before .before .args in
     let s = now (a .s) in
-    let w = whole s (a .at) 44 mwhCap (sym (call .numeral-at .ensures) ∙ ap heldReply (c .before .before .before .before .answer .given .1)) in
+    let w = whole s (a .at) 44 mwhCap (sym (call .numeral-at .ensures) ∙ ap heldReply (known .answer .given .1)) in
     omega (arith, w .value, least-most mwhCap (w .one .value))
 
 add-t11 : tie.Need-add-t11
 add-t11 c =
     let call = c .before .before in
-    let a = call .before .before .before .before .before .before .args in
+    let numeral = call .before .before .before .before in
+    let a = numeral .before .before .args in
     let s = now (a .s) in
     omega (arith, decimals-there s _ (told-right s _ (rw (call .decimals-at .ensures) at (c .before .if1 .left)) .0))
 
 returns-3 : tie.Need-returns-3
 returns-3 c =
-    let call = c .before .before .before .before .before .before in
+    let known = c .before .before .before .before in
+    let call = known .before .before in
     let a = call .before .before .args in
     let s = now (a .s) in
-    let w = whole s (a .at) 44 mwhCap (sym (call .numeral-at .ensures) ∙ ap heldReply (c .before .before .before .before .answer .given .1)) in
+    let w = whole s (a .at) 44 mwhCap (sym (call .numeral-at .ensures) ∙ ap heldReply (known .answer .given .1)) in
     rw (c .before .before .decimals-at .ensures) (sym (amount-right s (a .at) _ w (rw (c .before .before .decimals-at .ensures) at (c .before .if1 .left))))
 
 pub amount-at-spec : {M : Type 1} → statement M

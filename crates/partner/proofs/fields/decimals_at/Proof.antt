@@ -77,7 +77,10 @@ shared-slice-read-if5 c = search needs
 
 returns-5 : tie.Need-returns-5
 returns-5 c =
-    let a = c .before .before .before .before .before .before .before .before .before .before .before .before .before .args in
+    let three = c .before .before .before in
+    let two = three .before .before .before in
+    let one = two .before .before .before in
+    let a = one .before .before .before .before .args in
     sym (end-wrong (now (a .s)) (a .at) (c .if5 .taken))
 
 mul-result : tie.Need-mul-result

@@ -38,8 +38,9 @@ returns-3 c =
 
 returns-4 : tie.Need-returns-4
 returns-4 c =
-    let a = c .before .before .before .before .before .before .args in
-    sym (zero-wrong (now (a .s)) (a .at) (a .size) (a .stop) (c .before .if3 .left) (c .if4 .taken))
+    let no-injection = c .before in
+    let a = no-injection .before .before .before .before .before .args in
+    sym (zero-wrong (now (a .s)) (a .at) (a .size) (a .stop) (no-injection .if3 .left) (c .if4 .taken))
 
 returns-5 : tie.Need-returns-5
 returns-5 c =
@@ -49,8 +50,9 @@ returns-5 c =
 
 returns-6 : tie.Need-returns-6
 returns-6 c =
-    let a = c .before .before .before .before .before .before .before .args in
-    sym (other (now (a .s)) (a .at) (a .size) (a .stop) (c .before .before .if3 .left) (c .if5 .left))
+    let no-injection = c .before .before in
+    let a = no-injection .before .before .before .before .before .args in
+    sym (other (now (a .s)) (a .at) (a .size) (a .stop) (no-injection .if3 .left) (c .if5 .left))
 
 pub letter-at-spec : {M : Type 1} → statement M
 letter-at-spec =

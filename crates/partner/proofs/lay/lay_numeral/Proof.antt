@@ -11,6 +11,10 @@ use Rattle.partner.proofs.Lays.{numeral-long}
 use Rattle.partner.proofs.lay.lay_numeral.Statement.{statement}
 use Rattle.partner.proofs.lay.lay_numeral.Tie as tie
 
+-- where the digits were counted
+abbrev counted : tie.After-slice-known2 → tie.After-long-count
+counted c = c .before .before .before .before
+
 -- the digits that are counted, and one byte more
 fits : (c : tie.After-long-count) → let a = c .before .before .args in a .at + c .long-count .result + 1 ≤ length (now (a .room))
 fits c =
@@ -26,16 +30,16 @@ lay-digits-requires c κs =
     (counted .long-count .ensures, omega (arith, fits counted))
 
 add-lay-u8 : tie.Need-add-lay-u8
-add-lay-u8 c = omega (arith, fits (c .before .before .before .before .before))
+add-lay-u8 c = omega (arith, fits (counted (c .before)))
 
 lay-u8-requires : tie.Need-lay-u8-requires
-lay-u8-requires c κs = omega (arith, fits (c .before .before .before .before .before))
+lay-u8-requires c κs = omega (arith, fits (counted (c .before)))
 
 add-result : tie.Need-add-result
-add-result c = omega (arith, fits (c .before .before .before .before .before .before .before .before))
+add-result c = omega (arith, fits (counted (c .before .before .before .before)))
 
 add-result-2 : tie.Need-add-result-2
-add-result-2 c = omega (arith, fits (c .before .before .before .before .before .before .before .before))
+add-result-2 c = omega (arith, fits (counted (c .before .before .before .before)))
 
 same-length : tie.Need-same-length
 same-length c = search needs

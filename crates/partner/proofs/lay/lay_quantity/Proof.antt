@@ -12,6 +12,10 @@ use Rattle.partner.proofs.Lays.{numeral-long, amount-long, amount-laid}
 use Rattle.partner.proofs.lay.lay_quantity.Statement.{statement}
 use Rattle.partner.proofs.lay.lay_quantity.Tie as tie
 
+-- where the part before the point was laid
+abbrev whole-of : tie.After-slice-known3 → tie.After-lay-numeral
+whole-of c = let back = c .before .before .before .before .before in back .before
+
 size : (c : tie.After-magnitude) → c .magnitude .result ≡ natAbs (c .before .before .args .z)
 size c =
     let f = c .before .before .fits .z in
@@ -37,17 +41,17 @@ lay-three-requires c κs =
 
 add-lay-letter : tie.Need-add-lay-letter
 add-lay-letter c =
-    let whole = c .before .before .before .before .before .before .before in
+    let whole = whole-of (c .before) in
     omega (arith, fits (whole .before .before), whole .lay-numeral .ensures .after)
 
 lay-letter-requires : tie.Need-lay-letter-requires
 lay-letter-requires c κs =
-    let whole = c .before .before .before .before .before .before .before in
+    let whole = whole-of (c .before) in
     omega (arith, fits (whole .before .before), whole .lay-numeral .ensures .after)
 
 add-result : tie.Need-add-result
 add-result c =
-    let whole = c .before .before .before .before .before .before .before .before .before .before in
+    let whole = whole-of (c .before .before .before .before) in
     omega (arith, fits (whole .before .before), whole .lay-numeral .ensures .after)
 
 same-length : tie.Need-same-length

@@ -21,7 +21,7 @@ back s = search needs
 
 -- what has passed, place by place, and the entry before it
 abbrev entry-n : tie.After-enum-told → tie.Start
-entry-n c = c .before .before .before .before .before .before
+entry-n c = let known = c .before .before .before .before .before in known .before
 
 abbrev entry-down : tie.After-enum-told3 → tie.Start
 entry-down c = entry-n (c .before .before .before .before)

@@ -10,6 +10,10 @@ use Rattle.partner.proofs.write.line_length.Tie as tie
 back : (s : tie.Start) → Back (s .args .l)
 back s = search needs
 
+-- what stood before the lengths were counted
+abbrev entry : tie.After-quantity-length3 → tie.Start
+entry c = let counted = c .before .before .before .before .before in counted .before .before .before .before .before
+
 returns : tie.Need-returns
 returns c =
     let second = c .before .before in
@@ -59,13 +63,13 @@ quantity-length-requires-3 : tie.Need-quantity-length-requires-3
 quantity-length-requires-3 c κs = search needs
 
 add-result : tie.Need-add-result
-add-result c = omega (arith, returns c, line-few (c .before .before .before .before .before .before .before .before .before .before .args .l))
+add-result c = omega (arith, returns c, line-few (entry c .args .l))
 
 add-result-2 : tie.Need-add-result-2
-add-result-2 c = omega (arith, returns c, line-few (c .before .before .before .before .before .before .before .before .before .before .args .l))
+add-result-2 c = omega (arith, returns c, line-few (entry c .args .l))
 
 add-result-3 : tie.Need-add-result-3
-add-result-3 c = omega (arith, returns c, line-few (c .before .before .before .before .before .before .before .before .before .before .args .l))
+add-result-3 c = omega (arith, returns c, line-few (entry c .args .l))
 
 pub line-length-spec : {M : Type 1} → statement M
 line-length-spec =

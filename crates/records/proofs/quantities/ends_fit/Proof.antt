@@ -27,14 +27,15 @@ returns-2 c =
 
 returns-3 : tie.Need-returns-3
 returns-3 c =
-    let s = c .before .before .before .before .before .before .before in
+    let plain = c .before .before .before .before .before in
+    let s = plain .before .before in
     let u = s .args .u in
     let k = s .good .0 .1 .1 .1 .1 .1 .1 in
     let fl : SFits w32 (u .lower) = record { sfits = k .1 .1 .1 .1 .1 .1 .0 .1 } in
     let fh : SFits w32 (u .upper) = record { sfits = k .1 .1 .1 .1 .1 .1 .1 .0 .1 } in
     let low : SFits w32 (negℤ (pos 1000000)) = omega zarith in
     let high : SFits w32 (pos 1000000) = omega zarith in
-    let no : eqb (u .kind) 4 ≡ false = ne-eqb _ _ (c .before .before .before .before .before .if1 .left) in
+    let no : eqb (u .kind) 4 ≡ false = ne-eqb _ _ (plain .if1 .left) in
     rw (no, eqZ-bits w32 (u .lower) (negℤ (pos 1000000)) fl low (c .before .before .if2 .left)) (eqZ-test w32 (u .upper) (pos 1000000) fh high)
 
 pub ends-fit-spec : {M : Type 1} → statement M

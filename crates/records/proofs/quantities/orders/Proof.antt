@@ -17,6 +17,35 @@ use borrow.Author.Needs.{needs}
 use Rattle.records.proofs.quantities.orders.Statement.{statement}
 use Rattle.records.proofs.quantities.orders.Tie as tie
 
+-- what stood before, and where the margins were found in order
+abbrev entry : tie.After-enum-told → tie.Start
+entry c = c .before .before .before .before .before
+
+abbrev margins-passed : tie.After-enum-told3 → tie.After-enum-told
+margins-passed c = c .before .before .before .before .before
+
+-- the machine reads margins and ends back from their bits
+margins-back : (c : tie.Start) → let u = c .args .u in (toZ w32 (ofZ w32 (u .«step_down»)) ≡ u .«step_down») × (toZ w32 (ofZ w32 (u .«step_up»)) ≡ u .«step_up»)
+margins-back c =
+    let k = c .good .0 .1 .1 .1 .1 .1 .1 in
+    (toZ-ofZ (record { sfits = k .1 .1 .0 .1 }), toZ-ofZ (record { sfits = k .1 .1 .1 .0 .1 }))
+
+ends-back : (c : tie.Start) → let u = c .args .u in (toZ w32 (ofZ w32 (u .lower)) ≡ u .lower) × (toZ w32 (ofZ w32 (u .upper)) ≡ u .upper)
+ends-back c =
+    let k = c .good .0 .1 .1 .1 .1 .1 .1 in
+    (toZ-ofZ (record { sfits = k .1 .1 .1 .1 .1 .1 .0 .1 }), toZ-ofZ (record { sfits = k .1 .1 .1 .1 .1 .1 .1 .0 .1 }))
+
+-- margins that passed do not cross, nor do ends
+margins-fine : (c : tie.After-enum-told) → let u = entry c .args .u in leZ (u .«step_down») (u .«step_up») ≡ true
+margins-fine c =
+    let z = margins-back (entry c) in
+    passes _ _ _ (sym (rw (z .0, z .1) at (c .before .before .ordered .ensures)) ∙ c .enum-told .given .1) .0
+
+ends-fine : (c : tie.After-enum-told3) → let u = entry (margins-passed c) .args .u in leZ (u .lower) (u .upper) ≡ true
+ends-fine c =
+    let z = ends-back (entry (margins-passed c)) in
+    passes _ _ _ (sym (rw (z .0, z .1) at (c .before .before .ordered2 .ensures)) ∙ c .enum-told3 .given .1) .0
+
 ordered-requires : tie.Need-ordered-requires
 ordered-requires c κs = search needs
 
@@ -29,12 +58,8 @@ enum-told-2 c = search needs
 returns : tie.Need-returns
 unfolding orderFaults
 returns c =
-    let s = c .before .before .before .before .before in
-    let u = s .args .u in
-    let k = s .good .0 .1 .1 .1 .1 .1 .1 in
-    let zd : toZ w32 (ofZ w32 (u .«step_down»)) ≡ u .«step_down» = toZ-ofZ (record { sfits = k .1 .1 .0 .1 }) in
-    let zu : toZ w32 (ofZ w32 (u .«step_up»)) ≡ u .«step_up» = toZ-ofZ (record { sfits = k .1 .1 .1 .0 .1 }) in
-    ended _ _ _ (rw (zd, zu) at (c .before .before .ordered .ensures)) (c .enum-told2 .given .1)
+    let z = margins-back (c .before .before .before .before .before) in
+    ended _ _ _ (rw (z .0, z .1) at (c .before .before .ordered .ensures)) (c .enum-told2 .given .1)
 
 ordered-requires-2 : tie.Need-ordered-requires-2
 ordered-requires-2 c κs = search needs
@@ -48,15 +73,9 @@ enum-told-4 c = search needs
 returns-2 : tie.Need-returns-2
 unfolding orderFaults
 returns-2 c =
-    let s = c .before .before .before .before .before .before .before .before .before .before in
-    let u = s .args .u in
-    let k = s .good .0 .1 .1 .1 .1 .1 .1 in
-    let zd : toZ w32 (ofZ w32 (u .«step_down»)) ≡ u .«step_down» = toZ-ofZ (record { sfits = k .1 .1 .0 .1 }) in
-    let zu : toZ w32 (ofZ w32 (u .«step_up»)) ≡ u .«step_up» = toZ-ofZ (record { sfits = k .1 .1 .1 .0 .1 }) in
-    let zl : toZ w32 (ofZ w32 (u .lower)) ≡ u .lower = toZ-ofZ (record { sfits = k .1 .1 .1 .1 .1 .1 .0 .1 }) in
-    let zh : toZ w32 (ofZ w32 (u .upper)) ≡ u .upper = toZ-ofZ (record { sfits = k .1 .1 .1 .1 .1 .1 .1 .0 .1 }) in
-    let first : leZ (u .«step_down») (u .«step_up») ≡ true = passes _ _ _ (sym (rw (zd, zu) at (c .before .before .before .before .before .before .before .ordered .ensures)) ∙ c .before .before .before .before .before .enum-told .given .1) .0 in
-    check-past _ _ _ first (ended _ _ _ (rw (zl, zh) at (c .before .before .ordered2 .ensures)) (c .enum-told4 .given .1))
+    let passed = c .before .before .before .before .before in
+    let z = ends-back (entry passed) in
+    check-past _ _ _ (margins-fine passed) (ended _ _ _ (rw (z .0, z .1) at (c .before .before .ordered2 .ensures)) (c .enum-told4 .given .1))
 
 ends-fit-requires : tie.Need-ends-fit-requires
 ends-fit-requires c κs = search needs
@@ -64,16 +83,8 @@ ends-fit-requires c κs = search needs
 returns-3 : tie.Need-returns-3
 unfolding orderFaults
 returns-3 c =
-    let s = c .before .before .before .before .before .before .before .before .before .before .before .before in
-    let u = s .args .u in
-    let k = s .good .0 .1 .1 .1 .1 .1 .1 in
-    let zd : toZ w32 (ofZ w32 (u .«step_down»)) ≡ u .«step_down» = toZ-ofZ (record { sfits = k .1 .1 .0 .1 }) in
-    let zu : toZ w32 (ofZ w32 (u .«step_up»)) ≡ u .«step_up» = toZ-ofZ (record { sfits = k .1 .1 .1 .0 .1 }) in
-    let zl : toZ w32 (ofZ w32 (u .lower)) ≡ u .lower = toZ-ofZ (record { sfits = k .1 .1 .1 .1 .1 .1 .0 .1 }) in
-    let zh : toZ w32 (ofZ w32 (u .upper)) ≡ u .upper = toZ-ofZ (record { sfits = k .1 .1 .1 .1 .1 .1 .1 .0 .1 }) in
-    let first : leZ (u .«step_down») (u .«step_up») ≡ true = passes _ _ _ (sym (rw (zd, zu) at (c .before .before .before .before .before .before .before .before .before .ordered .ensures)) ∙ c .before .before .before .before .before .before .before .enum-told .given .1) .0 in
-    let second : leZ (u .lower) (u .upper) ≡ true = passes _ _ _ (sym (rw (zl, zh) at (c .before .before .before .before .ordered2 .ensures)) ∙ c .before .before .enum-told3 .given .1) .0 in
-    check-past _ _ _ first (check-past _ _ _ second (check-out _ _ _ (sym (c .before .ends-fit .ensures) ∙ not-true _ (c .if1 .taken))))
+    let passed = c .before .before in
+    check-past _ _ _ (margins-fine (margins-passed passed)) (check-past _ _ _ (ends-fine passed) (check-out _ _ _ (sym (c .before .ends-fit .ensures) ∙ not-true _ (c .if1 .taken))))
 
 margins-requires : tie.Need-margins-requires
 margins-requires c κs = search needs
@@ -84,21 +95,14 @@ ordered-requires-3 c κs = search needs
 returns-4 : tie.Need-returns-4
 unfolding orderFaults
 returns-4 c =
-    let s = c .before .before .before .before .before .before .before .before .before .before .before .before .before .before .before .before in
-    let u = s .args .u in
-    let k = s .good .0 .1 .1 .1 .1 .1 .1 in
-    let zd : toZ w32 (ofZ w32 (u .«step_down»)) ≡ u .«step_down» = toZ-ofZ (record { sfits = k .1 .1 .0 .1 }) in
-    let zu : toZ w32 (ofZ w32 (u .«step_up»)) ≡ u .«step_up» = toZ-ofZ (record { sfits = k .1 .1 .1 .0 .1 }) in
-    let zl : toZ w32 (ofZ w32 (u .lower)) ≡ u .lower = toZ-ofZ (record { sfits = k .1 .1 .1 .1 .1 .1 .0 .1 }) in
-    let zh : toZ w32 (ofZ w32 (u .upper)) ≡ u .upper = toZ-ofZ (record { sfits = k .1 .1 .1 .1 .1 .1 .1 .0 .1 }) in
-    let first : leZ (u .«step_down») (u .«step_up») ≡ true = passes _ _ _ (sym (rw (zd, zu) at (c .before .before .before .before .before .before .before .before .before .before .before .before .before .ordered .ensures)) ∙ c .before .before .before .before .before .before .before .before .before .before .before .enum-told .given .1) .0 in
-    let second : leZ (u .lower) (u .upper) ≡ true = passes _ _ _ (sym (rw (zl, zh) at (c .before .before .before .before .before .before .before .before .ordered2 .ensures)) ∙ c .before .before .before .before .before .before .enum-told3 .given .1) .0 in
-    let third = sym (c .before .before .before .before .before .ends-fit .ensures) ∙ not-false _ (c .before .before .before .before .if1 .left) in
+    let full = c .before .before .before .before in
+    let passed = full .before .before in
+    let third = sym (full .before .ends-fit .ensures) ∙ not-false _ (full .if1 .left) in
     let working = c .before .before .before .margins .result in
     let zx : toZ w32 (ofZ w32 (working .«step_down»)) ≡ working .«step_down» = search needs in
     let zy : toZ w32 (ofZ w32 (working .«step_up»)) ≡ working .«step_up» = search needs in
     let told = rw (zx, zy) at (c .ordered3 .ensures) in
-    check-past _ _ _ first (check-past _ _ _ second (check-past _ _ _ third (told ∙ ap (λ (m : Margins). check (leZ (m .«step_down») (m .«step_up»)) F.WorkingCrossed Fine) (c .before .before .before .margins .ensures))))
+    check-past _ _ _ (margins-fine (margins-passed passed)) (check-past _ _ _ (ends-fine passed) (check-past _ _ _ third (told ∙ ap (λ (m : Margins). check (leZ (m .«step_down») (m .«step_up»)) F.WorkingCrossed Fine) (c .before .before .before .margins .ensures))))
 
 pub orders-spec : {M : Type 1} → statement M
 orders-spec =

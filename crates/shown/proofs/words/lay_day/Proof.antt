@@ -20,7 +20,8 @@ date-of-requires c κs = search needs
 
 lay-date-requires : tie.Need-lay-date-requires
 lay-date-requires c κs =
-    let s = c .before .before .before .before .before .before .before in
+    let spaced = c .before .before .before .before in
+    let s = spaced .before .before .before in
     (rw (c .date-of .ensures) (few-date (s .args .day) (omega (arith, s .fits .day))), search needs)
 
 same-length : tie.Need-same-length

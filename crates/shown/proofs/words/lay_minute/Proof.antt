@@ -25,7 +25,8 @@ add-lay-moment c = search needs
 
 lay-moment-requires : tie.Need-lay-moment-requires
 lay-moment-requires c κs =
-    let told = c .before .before .before .before .before .before in
+    let spaced = c .before .before .before in
+    let told = spaced .before .before .before in
     let read = told .before .before in
     let s = read .before .before in
     (few-shown (s .args .minute) (told .shown .given .0 .0) (sym (read .moment-of .ensures) ∙ told .shown .given .1), search needs)

@@ -25,7 +25,7 @@ returns-2 : tie.Need-returns-2
 unfolding i32At
 returns-2 c =
     let field-at = c .before .before in
-    let good = not-false (c .before .before .before .before .before .before .args .before .good) (field-at .before .if1 .left) in
+    let good = not-false (field-at .before .before .before .before .args .before .good) (field-at .before .if1 .left) in
     rw (good, ← (field-at .field-at .ensures), ← (c .before .value-at .ensures)) (c .signed-of .ensures)
 
 pub i32-at-spec : {M : Type 1} → statement M

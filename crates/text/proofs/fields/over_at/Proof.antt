@@ -16,7 +16,7 @@ returns-2 : tie.Need-returns-2
 unfolding overAt
 returns-2 c =
     let field-at = c .before .before in
-    rw (not-false (c .before .before .before .before .before .before .args .last .good) (field-at .before .if1 .left), ← (field-at .field-at .ensures), eq-eqb _ _ (c .if2 .taken))
+    rw (not-false (field-at .before .before .before .before .args .last .good) (field-at .before .if1 .left), ← (field-at .field-at .ensures), eq-eqb _ _ (c .if2 .taken))
 
 spoilt-requires : tie.Need-spoilt-requires
 spoilt-requires c κs = search needs
@@ -25,7 +25,7 @@ returns-3 : tie.Need-returns-3
 unfolding overAt
 returns-3 c =
     let field-at = c .before .before .before in
-    rw (c .spoilt .ensures, not-false (c .before .before .before .before .before .before .before .args .last .good) (field-at .before .if1 .left), ← (field-at .field-at .ensures), ne-eqb _ _ (c .before .if2 .left))
+    rw (c .spoilt .ensures, not-false (field-at .before .before .before .before .args .last .good) (field-at .before .if1 .left), ← (field-at .field-at .ensures), ne-eqb _ _ (c .before .if2 .left))
 
 pub over-at-spec : {M : Type 1} → statement M
 over-at-spec = tie.close (tie.spec returns field-at-requires returns-2 spoilt-requires returns-3)

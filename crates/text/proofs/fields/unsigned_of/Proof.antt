@@ -23,7 +23,7 @@ no-unsigned-requires-3 c κs = search needs
 returns-3 : tie.Need-returns-3
 returns-3 c =
     let test2 = c .before .before .before in
-    let good = not-false (c .before .before .before .before .before .before .args .n .good) (test2 .before .if1 .left) in
+    let good = not-false (test2 .before .before .before .args .n .good) (test2 .before .if1 .left) in
     (rw (c .no-unsigned3 .ensures, good, test2 .if2 .left, lt-leb _ _ (c .before .if3 .taken)), rw (c .no-unsigned3 .ensures) (omega arith))
 
 returns-4 : tie.Need-returns-4

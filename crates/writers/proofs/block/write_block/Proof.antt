@@ -20,7 +20,7 @@ use Rattle.writers.proofs.block.write_block.Tie as tie
 
 -- the function's entry, from the check
 abbrev entry : tie.After-check-block → tie.Start
-entry c = c .before .before .before .before .before .before .before .before
+entry c = let known = c .before .before .before .before .before in known .before .before .before
 
 -- the columns that passed the check, and the group over them
 abbrev passed-by : {quarter : ℕ} {k : Columns} {room n : ℕ} → Accepted quarter k room n → Columns

@@ -42,7 +42,7 @@ abbrev μ-loop : tie.MeasureT-loop
 
 -- the function's entry, from the loop, and the columns that it was given
 abbrev entry : tie.At-loop Inv-loop μ-loop → tie.Start Inv-loop μ-loop
-entry c = c .before .before .before .before .before .before .before
+entry c = let known = c .before .before .before .before .before in known .before .before
 
 abbrev given : tie.Start Inv-loop μ-loop → Columns
 given s =
@@ -52,7 +52,8 @@ given s =
 loop-holds : tie.Need-loop-holds Inv-loop μ-loop
 unfolding floorAt unitsEnd
 loop-holds c =
-    let start-at = c .before .before .before .before .before .before in
+    let known = c .before .before .before .before in
+    let start-at = known .before .before in
     let k = given start-at in
     record { least = refl; on = refl; so = start (scan-steps (rowChecks k)) (count k) 0 }
 

@@ -28,7 +28,7 @@ abbrev μ-loop : tie.MeasureT-loop
 
 -- the function's entry, from the loop, and the columns that it was given
 abbrev entry : tie.At-loop Inv-loop μ-loop → tie.Start Inv-loop μ-loop
-entry c = c .before .before .before .before .before .before .before .before
+entry c = let known = c .before .before .before .before .before in known .before .before .before
 
 abbrev given : tie.Start Inv-loop μ-loop → Columns
 given s =
@@ -48,8 +48,8 @@ fits c =
 loop-holds : tie.Need-loop-holds Inv-loop μ-loop
 unfolding unitsBytes
 loop-holds c =
-    let known = c .before in
-    let s = known .before .before .before .before .before .before in
+    let known = c .before .before .before .before .before in
+    let s = known .before .before in
     let units = s .args .units in
     start (records (given s)) units groupLength (now (s .args .room)) (omega (arith, length-units (given s) units, s .pre .1))
 

@@ -13,7 +13,8 @@ use Rattle.writers.proofs.columns.row.Tie as tie
 returns : tie.Need-returns
 unfolding rowOf
 returns c =
-    let reads = c .before .before .before .before .before .before .before .before in
+    let up = c .before .before .before .before in
+    let reads = up .before .before .before .before in
     let a = reads .before .before .before .before .args in
     let z0 : toZ w32 (ofZ w32 (getD (now (a .n)) (a .i) (pos 0))) ≡ getD (now (a .n)) (a .i) (pos 0) = search needs in
     let z1 : toZ w32 (ofZ w32 (getD (now (a .pc)) (a .i) (pos 0))) ≡ getD (now (a .pc)) (a .i) (pos 0) = search needs in

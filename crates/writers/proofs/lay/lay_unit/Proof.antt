@@ -48,7 +48,9 @@ add-lay-i32-2 : tie.Need-add-lay-i32-2
 add-lay-i32-2 c = search needs
 
 lay-i32-requires-2 : tie.Need-lay-i32-requires-2
-lay-i32-requires-2 c κs = omega (arith, fits (c .before .before .before .before .before .before .before))
+lay-i32-requires-2 c κs =
+    let lower = c .before .before .before .before in
+    omega (arith, fits (lower .before .before .before))
 
 same-length : tie.Need-same-length
 same-length c = search needs
