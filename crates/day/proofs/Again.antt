@@ -14,7 +14,7 @@ use Rattle.terms.specs.Reply.{is, next}
 use Rattle.terms.specs.Refusals.{answer}
 use Rattle.terms.specs.declared.refusal.Answer.{Answer}
 use Rattle.terms.proofs.Replies.{need-is, next-is}
-use Rattle.records.specs.Layouts.{dayKind, dayLength, dayAt, groupKind, groupLength, groupAt, endKind, endLength, endAt}
+use Rattle.records.specs.Layouts.{dayKind, dayLength, dayAt, dayLengthOf, groupKind, groupLength, groupAt, endKind, endLength, endAt}
 use Rattle.records.specs.Reading.{permitted, headOf, dayFieldsOf, dayOf, groupOf, endFieldsOf, endOf, unitPlace}
 use Rattle.records.proofs.Heads.{whole-head}
 use Rattle.writers.specs.Columns.{columnsIn}
@@ -94,7 +94,7 @@ module _ (day : Day) (s entry : List ℕ) {step : Step} {exit : List ℕ} (o : O
         let a = next-is (dayFieldsOf s) _ (sym (offer-day day s (came .0) (came .1 .0) q (length entry)) ∙ reply day s entry o) in
         let v : step ≡ record { used = came .0 .end; written = 0; day = opened (a .0) } = cc (a .1 .1) in
         let d : a .0 ≡ dayAt s 0 = cc (need-is _ _ _ _ (a .1 .0) .1) in
-        let u : step .used ≡ dayLength = ap (λ (x : Step). x .used) v ∙ h .end ∙ ap (λ (x : Role). 0 + lengthIn x s 0) q in
+        let u : step .used ≡ dayLengthOf (dayAt s 0) = ap (λ (x : Step). x .used) v ∙ h .end ∙ ap (λ (x : Role). 0 + lengthIn x s 0) q in
         let e : dayOf s ≡ is (dayAt s 0) = rw (own-head day s (came .0) (came .1 .0) Opens q) (a .1 .0 ∙ ap is d) in
         rw u (day-again s small (dayAt s 0) e (omega arith) w)
 

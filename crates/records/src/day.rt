@@ -4,7 +4,7 @@ ghost use Prim.Native.Nat.{_≤_};
 ghost use lib.ListN.{length};
 ghost use Rattle.terms.specs.Reply.{is, need};
 ghost use Rattle.records.specs.Answers.{byteReply, dayReply, dayRefusal};
-ghost use Rattle.records.specs.Layouts.{dayQuarters, dayWith, dayAt};
+ghost use Rattle.records.specs.Layouts.{dayQuarters, dayWith, dayAt, dayLengthOf};
 ghost use Rattle.records.specs.Reading.{permitted, dayEnd, dayFieldsOf, dayOf};
 use crate::field::ByteAnswer;
 use crate::head::head;
@@ -61,6 +61,13 @@ impl DayRecord {
             position_limit,
             margin_limit,
         }
+    }
+
+    // How many bytes its record has.
+    pub fn length(self) -> usize
+        ensures { λ r. ⌜ r ≡ dayLengthOf self ⌝ }
+    {
+        DayRecord::LEN
     }
 
     // Whether a day can have so many quarters.
