@@ -17,6 +17,7 @@ use Rattle.terms.proofs.Replies.{need-is, next-is}
 use Rattle.records.specs.Layouts.{dayKind, dayLength, dayAt, dayLengthOf, groupKind, groupLength, groupAt, endKind, endLength, endAt}
 use Rattle.records.specs.Reading.{permitted, headOf, dayFieldsOf, dayOf, groupOf, endFieldsOf, endOf, unitPlace}
 use Rattle.records.proofs.Heads.{whole-head}
+use Rattle.records.proofs.Read.{day-passed}
 use Rattle.writers.specs.Columns.{columnsIn}
 use Rattle.writers.specs.Writing.{DayWritten, EndWritten, BlockWritten}
 use Rattle.writers.proofs.Again.{day-again, end-again}
@@ -87,13 +88,13 @@ module _ (day : Day) (s entry : List ℕ) {step : Step} {exit : List ℕ} (o : O
     -- A day record that was taken is what the writer makes of its values.
     pub day-same : roleOf (byteAt s 0) ≡ Opens → DayWritten (dayAt s 0) room r left
         → (answer r ≡ is (step .used)) × (take (step .used) left ≡ take (step .used) s)
-    unfolding dayTaken dayOf dayFieldsOf next
+    unfolding dayTaken dayOf next
     day-same k w =
         let q = role-is Opens k in
         let h = head-came day s (came .0) (came .1 .0) in
         let a = next-is (dayFieldsOf s) _ (sym (offer-day day s (came .0) (came .1 .0) q (length entry)) ∙ reply day s entry o) in
         let v : step ≡ record { used = came .0 .end; written = 0; day = opened (a .0) } = cc (a .1 .1) in
-        let d : a .0 ≡ dayAt s 0 = cc (need-is _ _ _ _ (a .1 .0) .1) in
+        let d = day-passed s (a .1 .0) .value in
         let u : step .used ≡ dayLengthOf (dayAt s 0) = ap (λ (x : Step). x .used) v ∙ h .end ∙ ap (λ (x : Role). 0 + lengthIn x s 0) q in
         let e : dayOf s ≡ is (dayAt s 0) = rw (own-head day s (came .0) (came .1 .0) Opens q) (a .1 .0 ∙ ap is d) in
         rw u (day-again s small (dayAt s 0) e (omega arith) w)

@@ -34,8 +34,8 @@ module _ (s : List ℕ) (small : Bytes s) {entry exit : List ℕ} {r : Answer} w
   unfolding writeDayOf roomFor need
   day-again d e h w =
       let a = day-read s e in
-      let l = rw (← a .value) at (day-laid s small (a .head)) in
-      written (dayBytes d) entry (dayLengthOf d) s w (simp (a .quarters, le-leb (dayLengthOf d) (length entry) h)) (length-day d) l
+      let l = rw (← a .passed .value) at (day-laid s small (a .head)) in
+      written (dayBytes d) entry (dayLengthOf d) s w (simp (a .passed .quarters, le-leb (dayLengthOf d) (length entry) h)) (length-day d) l
 
   pub end-again : (x : EndRecord) (groups : ℕ) → endOf s groups ≡ is x → endLength ≤ length entry → EndWritten x entry r exit
       → (answer r ≡ is endLength) × (take endLength exit ≡ take endLength s)
