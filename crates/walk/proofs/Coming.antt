@@ -1,5 +1,5 @@
 -- What a head that was read in a state says of the record, since each test of the head passed; and that it is the head of the one kind that came, as a record that is read by its own head comes.
-use Prim.Native.Nat.{ℕ, _+_, _-_, _≤_}
+use Prim.Native.Nat.{ℕ, _+_, _-_, _≤_, _<_}
 use mathlib.Core.Path.{_≡_, refl, sym, ap, _∙_}
 use mathlib.Core.Bool.{Bool, true, false}
 use mathlib.Core.List.{List}
@@ -39,6 +39,10 @@ by-row P day group end Closed kind e = absurd (omega (arith, ltb-true 0 0 e))
 pub row-comes : (state : State) (kind : ℕ) → mayCome state kind ≡ true → Row state kind
 row-comes =
     by-row Row (record { which = theDay refl refl; fixed = refl }) (record { which = aGroup refl refl; fixed = refl }) (record { which = theEnd refl refl; fixed = refl })
+
+-- the table has a column for each
+pub kind-below : (state : State) (kind : ℕ) → mayCome state kind ≡ true → kind < 16
+kind-below = by-row (λ _ (kind : ℕ). kind < 16) (omega arith) (omega arith) (omega arith)
 
 -- a record that neither opens a day nor is a block
 pub role-else : (kind : ℕ) → (kind ≡ dayKind → ⊥) → (kind ≡ groupKind → ⊥) → Closes ≡ roleOf kind
