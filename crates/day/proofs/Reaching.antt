@@ -12,12 +12,13 @@ use Rattle.numbers.specs.Choice.{pick}
 use Rattle.numbers.proofs.Trips.{below16}
 use Rattle.terms.specs.Reply.{Reply, is}
 use Rattle.terms.specs.declared.refusal.Refusal.{Refusal}
-use Rattle.terms.proofs.Replies.{need-is, next-is}
+use Rattle.terms.proofs.Replies.{next-is}
 use Rattle.records.specs.declared.key.Key.{Key}
 use Rattle.records.specs.declared.key.Last.{Last}
 use Rattle.records.specs.declared.key.Last.the-variants as L
-use Rattle.records.specs.Layouts.{dayAt, groupAt}
+use Rattle.records.specs.Layouts.{groupAt}
 use Rattle.records.specs.Reading.{permitted, below, follows, dayFieldsOf, endFieldsOf}
+use Rattle.records.proofs.Read.{day-passed}
 use Rattle.walk.specs.declared.table.State.{State}
 use Rattle.walk.specs.declared.table.State.the-variants.{Fresh, Open, Closed}
 use Rattle.walk.specs.declared.table.Role.{Role}
@@ -99,13 +100,11 @@ key-held s small quarters h l = record { brp = below16 s small 1; zone = small 3
 
 module _ (day : Day) (s : List ℕ) (small : Bytes s) (good : Good day) (room : ℕ) {step : Step} (e : offerOf day s room ≡ is step) where
   day-good : (end : ℕ) → dayTaken s end ≡ is step → Good (step .day)
-  unfolding dayTaken dayFieldsOf rank HeldLast
+  unfolding dayTaken rank HeldLast
   day-good end h p =
       let a = next-is (dayFieldsOf s) _ h in
       let v : step ≡ record { used = end; written = 0; day = opened (a .0) } = cc (a .1 .1) in
-      let q = need-is _ _ _ _ (a .1 .0) in
-      let d : a .0 ≡ dayAt s 0 = cc (q .1) in
-      rw v (record { quarters = rw d (q .0); last = tt; groups = omega arith })
+      rw v (record { quarters = day-passed s (a .1 .0) .quarters; last = tt; groups = omega arith })
 
   end-good : (end : ℕ) → endTaken day s end ≡ is step → Good (step .day)
   unfolding endTaken

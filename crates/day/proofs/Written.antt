@@ -1,6 +1,6 @@
 -- What the checks pass is taken, and so is what our writers made, by a day that takes it next: its head comes by the table, and its fields are read.
 use Prim.Native.Nat.{ℕ, _≤_}
-use mathlib.Core.Path.{_≡_, refl, ap, _∙_}
+use mathlib.Core.Path.{_≡_, refl, _∙_}
 use mathlib.Core.Bool.{true}
 use mathlib.Core.List.{List}
 use native.Mathlib.Omega.{arith}
@@ -65,7 +65,7 @@ module _ (day : Day) (s : List ℕ) (possibly : possible day ≡ true) where
   unfolding dayTaken next
   day-taken {d} room p e =
       let a = day-read s e in
-      let q : dayLengthOf d ≡ a .end = ap dayLengthOf (a .value) ∙ day-ends s (a .head) in
+      let q : dayLengthOf d ≡ a .end = a .passed .ends ∙ day-ends s (a .head) in
       offer-day day s (record { role = R.Opens; end = a .end }) (comes (rw p (day-comes s (a .head)))) refl room ∙ rw (a .fields, q)
 
 -- A block that passes its checks for a day is taken by that day, in a room that its result fits.

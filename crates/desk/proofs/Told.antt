@@ -61,7 +61,7 @@ unfolding callOf dayOf
 by-call day s room =
     by-next
     (by-next (by-more headNumbers callNumbers refl (by-head day 0 _ _)) (λ _ _. by-more dayNumbers callNumbers refl (by-day day)))
-    (λ d e. rw (first-alone d (day-read day e .quarters) s room) (by-alone d s room))
+    (λ d e. rw (first-alone d (day-read day e .passed .quarters) s room) (by-alone d s room))
 
 -- ---- an accepted call
 module _ (day s : List ℕ) (room : ℕ) {step : Step} (e : callOf day s room ≡ is step) where
@@ -70,7 +70,7 @@ module _ (day s : List ℕ) (room : ℕ) {step : Step} (e : callOf day s room �
   unfolding callOf
   parts =
       let a = next-is (dayOf day) (λ d. firstOf d s room) e in
-      (a .0, (a .1 .0, sym (first-alone (a .0) (day-read day (a .1 .0) .quarters) s room) ∙ a .1 .1))
+      (a .0, (a .1 .0, sym (first-alone (a .0) (day-read day (a .1 .0) .passed .quarters) s room) ∙ a .1 .1))
 
   block-is : roleOf (byteAt s 0) ≡ Block
   block-is = alone-block (opened (parts .0)) s room (parts .1 .1)

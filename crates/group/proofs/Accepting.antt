@@ -17,12 +17,12 @@ use Rattle.numbers.proofs.Choices.{and-both}
 use Rattle.numbers.proofs.Sums.{sum64-within}
 use Rattle.terms.specs.Reply.{is}
 use Rattle.terms.specs.Refusals.{firstFault}
-use Rattle.terms.specs.Quantities.{knownClass}
-use Rattle.terms.specs.Checks.{inRange, mostUnits, unitCount, marginChecks, amountChecks}
+use Rattle.terms.specs.Checks.{isFlag, inRange, mostUnits, unitCount, marginChecks, amountChecks}
 use Rattle.terms.specs.declared.quantity.Margins.{Margins}
 use Rattle.terms.specs.declared.refusal.Checked.the-variants.{Fine}
 use Rattle.terms.specs.declared.refusal.Fault.the-variants as F
 use Rattle.terms.proofs.Replies.{need-is, next-is}
+use Rattle.terms.proofs.Classes.{flag-known}
 use Rattle.terms.proofs.Passing.{passes}
 use Rattle.terms.proofs.Scan.{all-fine}
 use Rattle.group.specs.Group.{Group, units, marginsAt, position, excess, n1}
@@ -40,13 +40,13 @@ range-small z e =
 unit-sound : (class : ℕ) (n0 pc : ℤ) (m : Margins) → unitCheck class n0 pc m ≡ Fine → Sound class n0 pc m
 unfolding unitCheck amountChecks marginChecks
 unit-sound class n0 pc m e =
-    let a = passes (knownClass class) F.Class _ e in
+    let a = passes (isFlag class) F.Class _ e in
     let b = passes (inRange n0) F.N _ (a .1) in
     let c = passes (inRange pc) F.Pc _ (b .1) in
     let d = passes (inRange (m .«step_down»)) F.StepDown _ (c .1) in
     let f = passes (inRange (m .«step_up»)) F.StepUp _ (d .1) in
     record {
-      known = a .0;
+      known = flag-known class (a .0);
       n0-small = range-small n0 (b .0);
       pc-small = range-small pc (c .0);
       down-small = range-small (m .«step_down») (d .0);

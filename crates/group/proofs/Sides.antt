@@ -1,14 +1,14 @@
--- A nomination's size in a direction is its part above zero or its part below, and a unit has one of the two standings: by cases on direction and class.
-use Prim.Native.Nat.{ℕ, zero, suc, _+_, _≤_, _<_}
+-- A nomination's size in a direction is its part above zero or its part below, and a unit has one of the two standings: by cases on direction and standing.
+use Prim.Native.Nat.{ℕ, _+_, _≤_, _<_}
 use mathlib.Core.Path.{_≡_, refl, ap}
-use mathlib.Core.Bool.{true, false}
+use mathlib.Core.Bool.{Bool, true, false, not}
 use mathlib.Core.List.{List}
 use native.Mathlib.Omega.{arith}
 use native.Mathlib.Decide.{decLt}
-use borrow.Author.Tests.{leb-true}
 use lib.IntN.{ℤ, pos, natAbs}
 use lib.ListN.{length, getD, List·getD-eq-default}
 use lib.Signed.{ltZ}
+use Rattle.numbers.specs.Choice.{pick}
 use Rattle.numbers.specs.Column.{column, at}
 use Rattle.numbers.specs.Sum.{sum, sumZ, sumTo}
 use Rattle.numbers.proofs.Integers.{zarith, pp, nn, abs-z, one-side}
@@ -20,6 +20,7 @@ use Rattle.terms.specs.declared.quantity.Standing.{Standing}
 use Rattle.terms.specs.declared.quantity.Standing.the-variants.{NotEnabled, Enabled}
 use Rattle.terms.specs.declared.quantity.Direction.{Direction}
 use Rattle.terms.specs.declared.quantity.Direction.the-variants.{Injections, Withdrawals}
+use Rattle.terms.proofs.Classes.{one-standing}
 use Rattle.group.specs.Group.{sizeOf, sizesOf}
 use Rattle.group.specs.Inner.{Classed}
 
@@ -76,9 +77,11 @@ size-not d k class z e = rw e
 -- each unit has one of the two standings
 pub both-standings : (d : Direction) (class : ℕ) (z : ℤ) → knownClass class ≡ true → sizeOf d NotEnabled class z + sizeOf d Enabled class z ≡ sizeIn d z
 unfolding sizeOf
-both-standings d zero z h = omega arith
-both-standings d (suc zero) z h = omega arith
-both-standings d (suc (suc class)) z h = absurd (omega (arith, leb-true (suc (suc class)) 1 h))
+both-standings d class z h = rw (one-standing class h) (go (standing NotEnabled class))
+  where
+    go : (t : Bool) → pick t (sizeIn d z) 0 + pick (not t) (sizeIn d z) 0 ≡ sizeIn d z
+    go true = omega arith
+    go false = omega arith
 
 -- so their sizes add up to the direction's total
 pub both-totals : (d : Direction) {n1 : List ℤ} {class : List ℕ} → Classed n1 class

@@ -10,8 +10,7 @@ use Rattle.numbers.specs.Column.{at}
 use Rattle.numbers.specs.Sum.{sumZ}
 use Rattle.terms.specs.Reply.{Reply, is, refused, need, next}
 use Rattle.terms.specs.Refusals.{refusal, check, firstFault}
-use Rattle.terms.specs.Quantities.{knownClass}
-use Rattle.terms.specs.Checks.{unitCount, amountChecks}
+use Rattle.terms.specs.Checks.{isFlag, unitCount, amountChecks}
 use Rattle.terms.specs.declared.quantity.Margins.{Margins}
 use Rattle.terms.specs.declared.refusal.Fault.the-variants as F
 use Rattle.terms.specs.declared.refusal.Checked.{Checked}
@@ -26,9 +25,9 @@ use Rattle.group.specs.declared.judge.Judgement.the-variants as J
 abbrev pub asGroup : List ℤ → List ℤ → List ℤ → List ℤ → List ℕ → Group
 asGroup n0 pc stepDown stepUp class = record { n0 = n0; pc = pc; stepDown = stepDown; stepUp = stepUp; class = class }
 
--- 7 for the class, 8, 9
+-- 7 for a class other than 0 and 1, 8, 9
 unfoldable pub unitCheck : ℕ → ℤ → ℤ → Margins → Checked
-unitCheck class n0 pc m = check (knownClass class) F.Class (amountChecks n0 pc m)
+unitCheck class n0 pc m = check (isFlag class) F.Class (amountChecks n0 pc m)
 
 unfoldable pub unitChecks : Group → ℕ → Checked
 unitChecks g i = unitCheck (getD (g .class) i 0) (at (g .n0) i) (at (g .pc) i) (marginsAt (g .stepDown) (g .stepUp) i)

@@ -10,7 +10,7 @@ ghost use Rattle.group.specs.Columns.{asGroup, unitCheck, unitChecks};
 ghost use Rattle.group.specs.Accepted.{Level};
 ghost use Rattle.group.specs.Inner.{faultsOf, amountsPass, Beside};
 use terms::check::amounts;
-use terms::check::class;
+use terms::check::flag;
 use terms::quantity::Margins;
 use terms::quantity::Nomination;
 use terms::quantity::Position;
@@ -19,11 +19,11 @@ use terms::refusal::Checked;
 use terms::refusal::Fault;
 use terms::refusal::Refusal;
 
-// A unit given as columns: 7 for the class, 8, 9.
+// A unit given as columns: 7 for a class other than 0 and 1, 8, 9.
 fn unit(of_class: u8, n0: Nomination, pc: Position, m: Margins) -> Checked
     ensures { λ r. ⌜ r ≡ unitCheck «of_class» (n0 .0) (pc .0) m ⌝ }
 {
-    let Checked::Fine = class(of_class) else {
+    let Checked::Fine = flag(of_class, Fault::Class) else {
         return Checked::Faulty(Fault::Class);
     };
     amounts(n0, pc, m)

@@ -1,8 +1,9 @@
--- What holds of a record that was read: each test of its head and of its fields passed. A test more among a group's fields is a line here, and no other law takes those fields apart.
+-- What holds of a record that was read: each test of its head and of its fields passed. A test more among a day's or a group's fields is a line here, and no other law takes those fields apart.
 use Prim.Native.Nat.{ℕ, _≤_, _<_}
-use mathlib.Core.Path.{_≡_}
+use mathlib.Core.Path.{_≡_, ap}
 use mathlib.Core.Bool.{true}
 use mathlib.Core.List.{List}
+use native.Mathlib.Omega.{arith}
 use lib.Dec.{leb}
 use lib.ListN.{length}
 use borrow.Author.Tests.{ltb-true, leb-true}
@@ -12,12 +13,16 @@ use Rattle.terms.proofs.Replies.{need-is, next-is}
 use Rattle.records.specs.declared.day.DayRecord.{DayRecord}
 use Rattle.records.specs.declared.group.GroupRecord.{GroupRecord}
 use Rattle.records.specs.declared.key.Last.{Last}
-use Rattle.records.specs.Layouts.{dayKind, dayLength, dayAt, groupAt}
+use Rattle.records.specs.Layouts.{dayKind, dayLength, dayAt, dayLengthOf, groupAt}
 use Rattle.records.specs.Reading.{permitted, follows, keyOf, dayHeadOf, dayEnd, dayOf, dayFieldsOf, groupHeadOf, groupOf, groupFieldsOf}
 use Rattle.records.proofs.Heads.{headed, head-end}
 use Rattle.records.proofs.Checks.{both}
 
 -- ---- the day record
+-- none is shorter than an 01h
+pub day-least : (d : DayRecord) → dayLength ≤ dayLengthOf d
+day-least d = omega arith
+
 module _ (s : List ℕ) {end : ℕ} (e : dayHeadOf s ≡ is end) where
   pub day-ends : dayEnd s ≡ end
   day-ends = head-end s 0 dayKind dayLength e
@@ -25,20 +30,31 @@ module _ (s : List ℕ) {end : ℕ} (e : dayHeadOf s ≡ is end) where
   pub day-long : dayEnd s ≤ length s
   day-long = headed s 0 dayKind dayLength e .long
 
+-- its fields passed
+pub record DayPassed (s : List ℕ) (d : DayRecord) : Type 0 where
+  pub value : d ≡ dayAt s 0
+  pub quarters : permitted (d .quarters) ≡ true
+  pub ends : dayLengthOf d ≡ dayEnd s
+
+pub day-passed : (s : List ℕ) {d : DayRecord} → dayFieldsOf s ≡ is d → DayPassed s d
+unfolding dayFieldsOf
+day-passed s {d} e =
+    let q = need-is _ _ _ _ e in
+    let v : d ≡ dayAt s 0 = cc (q .1) in
+    record { value = v; quarters = rw v (q .0); ends = ap dayLengthOf v }
+
+-- and its head
 pub record DayRead (s : List ℕ) (d : DayRecord) : Type 0 where
   pub end : ℕ
   pub head : dayHeadOf s ≡ is end
   pub fields : dayFieldsOf s ≡ is d
-  pub value : d ≡ dayAt s 0
-  pub quarters : permitted (d .quarters) ≡ true
+  pub passed : DayPassed s d
 
 pub day-read : (s : List ℕ) {d : DayRecord} → dayOf s ≡ is d → DayRead s d
-unfolding dayOf dayFieldsOf
+unfolding dayOf
 day-read s {d} e =
     let h = next-is _ _ e in
-    let q = need-is _ _ _ _ (h .1 .1) in
-    let v : d ≡ dayAt s 0 = cc (q .1) in
-    record { end = h .0; head = h .1 .0; fields = h .1 .1; value = v; quarters = rw v (q .0) }
+    record { end = h .0; head = h .1 .0; fields = h .1 .1; passed = day-passed s (h .1 .1) }
 
 -- ---- the group record
 -- its fields passed

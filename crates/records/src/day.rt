@@ -4,7 +4,7 @@ ghost use Prim.Native.Nat.{_≤_};
 ghost use lib.ListN.{length};
 ghost use Rattle.terms.specs.Reply.{is, need};
 ghost use Rattle.records.specs.Answers.{byteReply, dayReply, dayRefusal};
-ghost use Rattle.records.specs.Layouts.{dayQuarters, dayWith, dayAt};
+ghost use Rattle.records.specs.Layouts.{dayLength, dayQuarters, dayWith, dayAt, dayLengthOf};
 ghost use Rattle.records.specs.Reading.{permitted, dayEnd, dayFieldsOf, dayOf};
 use crate::field::ByteAnswer;
 use crate::head::head;
@@ -63,6 +63,13 @@ impl DayRecord {
         }
     }
 
+    // How many bytes its record has.
+    pub fn length(self) -> usize
+        ensures { λ r. ⌜ r ≡ dayLengthOf self ⌝ }
+    {
+        DayRecord::LEN
+    }
+
     // Whether a day can have so many quarters.
     pub fn permits(quarters: u8) -> bool
         ensures { λ r. ⌜ r ≡ permitted quarters ⌝ }
@@ -94,7 +101,7 @@ impl DayAnswer {
 }
 
 fn quarters_at(s: &[u8]) -> ByteAnswer
-    requires { ⌜ dayEnd (now s) ≤ length (now s) ⌝ }
+    requires { ⌜ dayLength ≤ length (now s) ⌝ }
     ensures { λ r. ⌜ byteReply r ≡ need (permitted (dayAt (now (s .entry)) 0 .quarters)) 3 (dayQuarters .place) (is (dayAt (now (s .entry)) 0 .quarters)) ⌝ }
 {
     let quarters = s[DayRecord::QUARTERS];

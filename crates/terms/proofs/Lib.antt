@@ -6,4 +6,5 @@ pub mod Scan
 pub mod Same
 pub mod Numbers
 pub mod Considered
+pub mod Classes
 pub mod Sizes

@@ -1,5 +1,5 @@
--- What a head that was read in a state says of the record, since each test of the head passed; and that it is the head of the one kind that came.
-use Prim.Native.Nat.{ℕ, _+_, _-_, _≤_}
+-- What a head that was read in a state says of the record, since each test of the head passed; and that it is the head of the one kind that came, as a record that is read by its own head comes.
+use Prim.Native.Nat.{ℕ, _+_, _-_, _≤_, _<_}
 use mathlib.Core.Path.{_≡_, refl, sym, ap, _∙_}
 use mathlib.Core.Bool.{Bool, true, false}
 use mathlib.Core.List.{List}
@@ -13,7 +13,7 @@ use Rattle.terms.specs.Reply.{Reply, is, need, next}
 use Rattle.terms.proofs.Replies.{need-is}
 use Rattle.records.specs.Layouts.{dayKind, dayLength, dayAt, dayLengthOf, groupKind, groupLength, endKind, endLength}
 use Rattle.records.specs.Reading.{headOf, dayHeadOf, groupHeadOf, endHeadOf}
-use Rattle.records.proofs.Heads.{headed}
+use Rattle.records.proofs.Heads.{headed, whole-head}
 use Rattle.walk.specs.declared.table.State.{State}
 use Rattle.walk.specs.declared.table.State.the-variants.{Fresh, Open, Closed}
 use Rattle.walk.specs.declared.table.Role.{Role}
@@ -21,20 +21,28 @@ use Rattle.walk.specs.declared.table.Role.the-variants.{Opens, Block, Cl
 use Rattle.walk.specs.declared.table.Head.{Head}
 use Rattle.walk.specs.Table.{comes, none, body, Coming, theDay, aGroup, theEnd, lengthAs, Row, roleOr, roleOf, bodyOf, isBlock, mayCome, headIn, blockHeadIn}
 
--- the table, row by row
-pub row-comes : (state : State) (kind : ℕ) → mayCome state kind ≡ true → Row state kind
-row-comes Fresh kind e = go (eqb kind dayKind) refl e
+-- the table, row by row: what holds of each of its records holds of whatever may come
+by-row : (P : State → ℕ → Type 0) → P Fresh dayKind → P Open groupKind → P Open endKind → (state : State) (kind : ℕ) → mayCome state kind ≡ true → P state kind
+by-row P day group end Fresh kind e = go (eqb kind dayKind) refl e
   where
-    go : (d : Bool) → eqb kind dayKind ≡ d → ltb 0 (body (pick d (comes Opens (dayLength - 1)) none)) ≡ true → Row Fresh kind
-    go true k e = rw (eqb-true kind dayKind k) (record { which = theDay refl refl; fixed = refl })
+    go : (d : Bool) → eqb kind dayKind ≡ d → ltb 0 (body (pick d (comes Opens (dayLength - 1)) none)) ≡ true → P Fresh kind
+    go true k e = rw (eqb-true kind dayKind k) day
     go false k e = absurd (omega (arith, ltb-true 0 0 e))
-row-comes Open kind e = go (eqb kind groupKind) (eqb kind endKind) refl refl e
+by-row P day group end Open kind e = go (eqb kind groupKind) (eqb kind endKind) refl refl e
   where
-    go : (g n : Bool) → eqb kind groupKind ≡ g → eqb kind endKind ≡ n → ltb 0 (body (pick g (comes Block (groupLength - 1)) (pick n (comes Closes (endLength - 1)) none))) ≡ true → Row Open kind
-    go true n k j e = rw (eqb-true kind groupKind k) (record { which = aGroup refl refl; fixed = refl })
-    go false true k j e = rw (eqb-true kind endKind j) (record { which = theEnd refl refl; fixed = refl })
+    go : (g n : Bool) → eqb kind groupKind ≡ g → eqb kind endKind ≡ n → ltb 0 (body (pick g (comes Block (groupLength - 1)) (pick n (comes Closes (endLength - 1)) none))) ≡ true → P Open kind
+    go true n k j e = rw (eqb-true kind groupKind k) group
+    go false true k j e = rw (eqb-true kind endKind j) end
     go false false k j e = absurd (omega (arith, ltb-true 0 0 e))
-row-comes Closed kind e = absurd (omega (arith, ltb-true 0 0 e))
+by-row P day group end Closed kind e = absurd (omega (arith, ltb-true 0 0 e))
+
+pub row-comes : (state : State) (kind : ℕ) → mayCome state kind ≡ true → Row state kind
+row-comes =
+    by-row Row (record { which = theDay refl refl; fixed = refl }) (record { which = aGroup refl refl; fixed = refl }) (record { which = theEnd refl refl; fixed = refl })
+
+-- the table has a column for each
+pub kind-below : (state : State) (kind : ℕ) → mayCome state kind ≡ true → kind < 16
+kind-below = by-row (λ _ (kind : ℕ). kind < 16) (omega arith) (omega arith) (omega arith)
 
 -- a record that neither opens a day nor is a block
 pub role-else : (kind : ℕ) → (kind ≡ dayKind → ⊥) → (kind ≡ groupKind → ⊥) → Closes ≡ roleOf kind
@@ -134,6 +142,26 @@ module _ (s : List ℕ) {end : ℕ} where
 
   pub end-comes : endHeadOf s ≡ is end → headIn s 0 Open ≡ is (record { role = Closes; end = end })
   end-comes e = by-kind Open endKind endLength refl refl e
+
+-- and the head that came is its record's own, by the byte that came
+abbrev pub headAs : Role → List ℕ → Reply ℕ
+headAs Opens s = dayHeadOf s
+headAs Block s = groupHeadOf s
+headAs Closes s = endHeadOf s
+
+module _ (s : List ℕ) (state : State) where
+  by-byte : mayCome state (byteAt s 0) ≡ true → headAs (roleOf (byteAt s 0)) s ≡ headOf s 0 (byteAt s 0) (1 + bodyOf state (byteAt s 0))
+  by-byte may =
+      by-row (λ (x : State) (kind : ℕ). byteAt s 0 ≡ kind → headAs (roleOf kind) s ≡ headOf s 0 kind (1 + bodyOf x kind)) (λ _. refl) (λ _. refl) (λ _. refl) state (byteAt s 0) may refl
+
+  pub own-head : (h : Head) → headIn s 0 state ≡ is h → (role : Role) → h .role ≡ role → headAs role s ≡ is (h .end)
+  own-head h e role k =
+      let m = came s 0 state h e in
+      let n : 1 + bodyOf state (byteAt s 0) ≡ h .end = omega (arith, m .past) in
+      let long = le-leb (0 + h .end) (length s) (omega (arith, m .long)) in
+      let z : 0 + h .end ≡ h .end = omega arith in
+      let whole = whole-head s 0 (byteAt s 0) (h .end) (omega arith) (simp (long, eq-eqb (byteAt s 0) (byteAt s 0) refl)) ∙ ap is z in
+      rw (← k, ← m .first) (by-byte (m .may) ∙ rw n whole)
 
 -- a block by its head: it is one by the table, it comes, and its group record is there whole
 pub record BlockCame (s : List ℕ) (at : ℕ) (state : State) (h : Head) : Type 0 where

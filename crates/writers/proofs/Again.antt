@@ -13,10 +13,10 @@ use Rattle.terms.specs.declared.refusal.Answer.{Answer}
 use Rattle.terms.proofs.Replies.{next-is}
 use Rattle.records.specs.declared.day.DayRecord.{DayRecord}
 use Rattle.records.specs.declared.end.EndRecord.{EndRecord}
-use Rattle.records.specs.Layouts.{dayKind, dayLength, dayQuarters, dayAt, dayBytes, endKind, endLength, endGroups, endAt, endBytes}
-use Rattle.records.specs.Reading.{permitted, dayFieldsOf, dayOf, endFieldsOf, endOf}
+use Rattle.records.specs.Layouts.{dayBytes, dayLengthOf, endLength, endGroups, endAt, endBytes}
+use Rattle.records.specs.Reading.{dayOf, endFieldsOf, endOf}
 use Rattle.records.proofs.Fields.{field-in}
-use Rattle.records.proofs.Heads.{headed}
+use Rattle.records.proofs.Read.{day-read}
 use Rattle.writers.specs.Writing.{Wrote, laid, roomFor, writeDayOf, DayWritten, writeEndOf, EndWritten}
 use Rattle.writers.proofs.Fields.{length-day, day-laid, length-end, end-laid}
 
@@ -29,14 +29,13 @@ written bytes entry {r} {exit} n s w q l e =
     (w .replied ∙ q, rw x (take-at bytes (drop n entry) n l ∙ e))
 
 module _ (s : List ℕ) (small : Bytes s) {entry exit : List ℕ} {r : Answer} where
-  pub day-again : (d : DayRecord) → dayOf s ≡ is d → dayLength ≤ length entry → DayWritten d entry r exit → (answer r ≡ is dayLength) × (take dayLength exit ≡ take dayLength s)
-  unfolding dayOf dayFieldsOf writeDayOf roomFor need
+  pub day-again : (d : DayRecord) → dayOf s ≡ is d → dayLengthOf d ≤ length entry → DayWritten d entry r exit
+      → (answer r ≡ is (dayLengthOf d)) × (take (dayLengthOf d) exit ≡ take (dayLengthOf d) s)
+  unfolding writeDayOf roomFor need
   day-again d e h w =
-      let a = next-is _ _ e in
-      let b = field-in (permitted (dayAt s 0 .quarters)) 3 (dayQuarters .place) (dayAt s 0) (sym (a .1 .1)) in
-      let p = rw (← b .1) at (b .0) in
-      let l = rw (← b .1) at (day-laid s small (headed s 0 dayKind dayLength (a .1 .0))) in
-      written (dayBytes d) entry dayLength s w (simp (p, le-leb dayLength (length entry) h)) (length-day d) l
+      let a = day-read s e in
+      let l = rw (← a .passed .value) at (day-laid s small (a .head)) in
+      written (dayBytes d) entry (dayLengthOf d) s w (simp (a .passed .quarters, le-leb (dayLengthOf d) (length entry) h)) (length-day d) l
 
   pub end-again : (x : EndRecord) (groups : ℕ) → endOf s groups ≡ is x → endLength ≤ length entry → EndWritten x entry r exit
       → (answer r ≡ is endLength) × (take endLength exit ≡ take endLength s)
@@ -44,5 +43,5 @@ module _ (s : List ℕ) (small : Bytes s) {entry exit : List ℕ} {r : Answer} w
   end-again x groups e h w =
       let a = next-is _ _ e in
       let b = field-in (eqb (endAt s 0 .groups) groups) 14 (endGroups .place) (endAt s 0) (sym (a .1 .1)) in
-      let l = rw (← b .1) at (end-laid s small (headed s 0 endKind endLength (a .1 .0))) in
+      let l = rw (← b .1) at (end-laid s small (a .1 .0)) in
       written (endBytes x) entry endLength s w (simp (le-leb endLength (length entry) h)) (length-end x) l

@@ -147,7 +147,7 @@ module _ (s : List ℕ) (small : Bytes s) (day : DayRecord) (last : Last) (g : G
   lays : blockBytes g values ≡ take n s
   unfolding blockBytes unitsBytes
   lays =
-      let first = rw (← passed .value) at (group-laid s small (headed s 0 groupKind groupLength (read .head))) in
+      let first = rw (← passed .value) at (group-laid s small (read .head)) in
       let rest = run-again (λ (i : ℕ). unitBytes (rowOf values i)) s groupLength (count values) (λ i h. unit-again i (rw counted at h)) in
       rw (first, rest, ends, ← length-units values (count values)) (sym (take-add groupLength (length (unitsBytes values (count values))) s))
 

@@ -15,18 +15,18 @@ use Rattle.records.specs.declared.end.EndRecord.{EndRecord}
 use Rattle.records.specs.declared.group_result.GroupResult.{GroupResult}
 use Rattle.records.specs.declared.unit_result.UnitResult.{UnitResult}
 use Rattle.records.specs.declared.key.Last.{Last}
-use Rattle.records.specs.Layouts.{behind, dayKind, dayLength, dayTable, dayAt, dayBytes}
+use Rattle.records.specs.Layouts.{behind, dayKind, dayLength, dayTable, dayAt, dayBytes, dayLengthOf}
 use Rattle.records.specs.Layouts.{groupKind, groupLength, groupTable, groupAt, groupBytes}
 use Rattle.records.specs.Layouts.{endKind, endLength, endTable, endAt, endBytes}
 use Rattle.records.specs.Layouts.{groupResultKind, groupResultLength, groupResultTable, groupResultAt, groupResultBytes}
 use Rattle.records.specs.Layouts.{unitResultKind, unitResultLength, unitResultTable, unitResultAt, unitResultBytes}
 use Rattle.records.specs.Reading.{dayHeadOf, permitted, dayFieldsOf, dayOf, groupHeadOf, groupFieldsOf, groupOf, endHeadOf, endFieldsOf, endOf}
-use Rattle.records.proofs.Heads.{Headed}
+use Rattle.records.proofs.Heads.{headed}
 use Rattle.writers.specs.Trips.{Joins, HeldGroupResult, HeldUnitResult}
 use Rattle.writers.proofs.Tables.{AllHeld, table-back, record-again, head-read}
 
 -- ---- a day record
-pub length-day : (d : DayRecord) → length (dayBytes d) ≡ dayLength
+pub length-day : (d : DayRecord) → length (dayBytes d) ≡ dayLengthOf d
 unfolding dayBytes behind bytes32 bytes16
 length-day d = refl
 
@@ -37,7 +37,7 @@ module _ (s rest : List ℕ) (d : DayRecord) (e : s ≡ dayBytes d ++ rest) wher
       let r = table-back s 0 (dayKind ∷ []) (dayTable d) dayLength rest refl (tt, (tt, (tt, (tt, (tt, tt))))) e in
       rw (r .0, r .1 .0, r .1 .1 .0, r .1 .1 .1 .0, r .1 .1 .1 .1 .0)
 
-  day-head : dayHeadOf s ≡ is dayLength
+  day-head : dayHeadOf s ≡ is (dayLengthOf d)
   unfolding dayBytes behind bytes16 bytes32
   day-head = head-read s 0 dayKind (dayBytes d) rest e refl (omega arith) dayLength refl
 
@@ -45,9 +45,9 @@ module _ (s rest : List ℕ) (d : DayRecord) (e : s ≡ dayBytes d ++ rest) wher
   unfolding dayOf dayFieldsOf next need
   day-reads p = simp (day-head, day-read, p)
 
-pub day-laid : (s : List ℕ) → Bytes s → Headed s 0 dayKind dayLength → dayBytes (dayAt s 0) ≡ take dayLength s
+pub day-laid : (s : List ℕ) → Bytes s → {end : ℕ} → dayHeadOf s ≡ is end → dayBytes (dayAt s 0) ≡ take (dayLengthOf (dayAt s 0)) s
 unfolding dayAt dayBytes
-day-laid s small h = record-again s small 0 dayKind dayLength (dayTable (dayAt s 0)) h refl (refl, (refl, (refl, (refl, (refl, tt)))))
+day-laid s small e = record-again s small 0 dayKind dayLength (dayTable (dayAt s 0)) (headed s 0 dayKind dayLength e) refl (refl, (refl, (refl, (refl, (refl, tt)))))
 
 -- ---- a group record
 pub length-group : (g : GroupRecord) → length (groupBytes g) ≡ groupLength
@@ -69,9 +69,9 @@ module _ (s rest : List ℕ) (g : GroupRecord) (e : s ≡ groupBytes g ++ rest) 
   unfolding groupOf groupFieldsOf next need
   group-reads day last n j = simp (group-head, group-read, lt-ltb (g .quarter) (day .quarters) (j .early), n, j .above, j .fresh)
 
-pub group-laid : (s : List ℕ) → Bytes s → Headed s 0 groupKind groupLength → groupBytes (groupAt s 0) ≡ take groupLength s
+pub group-laid : (s : List ℕ) → Bytes s → {end : ℕ} → groupHeadOf s ≡ is end → groupBytes (groupAt s 0) ≡ take groupLength s
 unfolding groupAt groupBytes
-group-laid s small h = record-again s small 0 groupKind groupLength (groupTable (groupAt s 0)) h refl (refl, (refl, (refl, (refl, (refl, tt)))))
+group-laid s small e = record-again s small 0 groupKind groupLength (groupTable (groupAt s 0)) (headed s 0 groupKind groupLength e) refl (refl, (refl, (refl, (refl, (refl, tt)))))
 
 -- ---- an end record
 pub length-end : (e : EndRecord) → length (endBytes e) ≡ endLength
@@ -91,9 +91,9 @@ module _ (s rest : List ℕ) (x : EndRecord) (e : s ≡ endBytes x ++ rest) wher
   unfolding endOf endFieldsOf next need
   end-reads = simp (end-head, end-read, eq-eqb (x .groups) (x .groups) refl)
 
-pub end-laid : (s : List ℕ) → Bytes s → Headed s 0 endKind endLength → endBytes (endAt s 0) ≡ take endLength s
+pub end-laid : (s : List ℕ) → Bytes s → {end : ℕ} → endHeadOf s ≡ is end → endBytes (endAt s 0) ≡ take endLength s
 unfolding endAt endBytes
-end-laid s small h = record-again s small 0 endKind endLength (endTable (endAt s 0)) h refl (refl, tt)
+end-laid s small e = record-again s small 0 endKind endLength (endTable (endAt s 0)) (headed s 0 endKind endLength e) refl (refl, tt)
 
 -- ---- results
 module _ (s : List ℕ) (at : ℕ) (rest : List ℕ) where

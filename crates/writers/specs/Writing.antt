@@ -11,7 +11,7 @@ use Rattle.terms.specs.declared.refusal.Answer.{Answer}
 use Rattle.records.specs.declared.day.DayRecord.{DayRecord}
 use Rattle.records.specs.declared.group.GroupRecord.{GroupRecord}
 use Rattle.records.specs.declared.end.EndRecord.{EndRecord}
-use Rattle.records.specs.Layouts.{dayLength, dayBytes, groupLength, groupWith, groupBytes, unitBytes, lengthOf, endLength, endBytes}
+use Rattle.records.specs.Layouts.{dayBytes, dayLengthOf, groupLength, groupWith, groupBytes, unitBytes, lengthOf, endLength, endBytes}
 use Rattle.records.specs.Reading.{permitted}
 use Rattle.writers.specs.Runs.{run}
 use Rattle.writers.specs.Columns.{Columns, rowOf, count, even, rowChecks}
@@ -30,9 +30,9 @@ pub record Wrote (right : Reply ℕ) (bytes entry : List ℕ) (r : Answer) (exit
 unfoldable pub roomFor : ℕ → ℕ → Reply ℕ
 roomFor bytes room = need (leb bytes room) 12 0 (is bytes)
 
--- day: 3, 12
+-- day: 3, 12, by the length that its record has
 unfoldable pub writeDayOf : DayRecord → ℕ → Reply ℕ
-writeDayOf d room = need (permitted (d .quarters)) 3 0 (roomFor dayLength room)
+writeDayOf d room = need (permitted (d .quarters)) 3 0 (roomFor (dayLengthOf d) room)
 
 abbrev pub DayWritten : DayRecord → List ℕ → Answer → List ℕ → Type 0
 DayWritten d entry r exit = Wrote (writeDayOf d (length entry)) (dayBytes d) entry r exit

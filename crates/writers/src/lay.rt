@@ -4,7 +4,7 @@ ghost use mathlib.Core.List.{[], _∷_};
 ghost use Prim.Native.Nat.{_+_, _≤_};
 ghost use lib.ListN.{length};
 ghost use Rattle.numbers.specs.Bytes.{bytes16, laidAt};
-ghost use Rattle.records.specs.Layouts.{dayLength, dayBytes, groupLength, groupBytes, unitLength, lengthOf, unitBytes, endLength, endBytes};
+ghost use Rattle.records.specs.Layouts.{dayBytes, dayLengthOf, groupLength, groupBytes, unitLength, lengthOf, unitBytes, endLength, endBytes};
 ghost use Rattle.writers.specs.Inner.{headLength, threeLength, fourLength, quantities, bodyBytes};
 use numbers::bytes::lay_i32;
 use numbers::bytes::lay_u8;
@@ -46,7 +46,7 @@ fn lay_four(room: &mut [u8], at: usize, a: i32, b: i32, c: i32, d: i32)
 }
 
 pub fn lay_day(room: &mut [u8], at: usize, d: DayRecord)
-    requires { ⌜ at + dayLength ≤ length (now room) ⌝ }
+    requires { ⌜ at + dayLengthOf d ≤ length (now room) ⌝ }
     ensures { λ _. ⌜ now (room .exit) ≡ laidAt (now (room .entry)) at (dayBytes d) ⌝ }
 {
     lay_head(room, at, DayRecord::KIND, d.day);

@@ -15,11 +15,12 @@ pub fn write_day(d: DayRecord, room: &mut [u8]) -> Answer
     if !DayRecord::permits(d.quarters) {
         return refused(Why::Quarters);
     }
-    if room.len() < DayRecord::LEN {
+    let len = d.length();
+    if room.len() < len {
         return refused(Why::Room);
     }
     lay_day(room, 0, d);
-    Answer::Is(DayRecord::LEN)
+    Answer::Is(len)
 }
 
 // An end record in the room's first bytes, with any count of groups: 12.

@@ -36,7 +36,7 @@ check-first-requires : tie.Need-check-first-requires
 check-first-requires c κs =
     let read-day = c .before .before .before .before in
     let e = sym (read-day .read-day .ensures) ∙ ap dayReply (c .before .before .d .given .1) in
-    day-read _ e .quarters
+    day-read _ e .passed .quarters
 
 same-length : tie.Need-same-length
 same-length c = search needs

@@ -1,15 +1,24 @@
 -- A day record's fields: 3 is handed upward, and else the values are those of the layout.
+use Prim.Native.Nat.{_≤_}
 use mathlib.Core.Path.{sym, ap, _∙_}
+use native.Mathlib.Omega.{arith}
+use denote.Ref.{now}
+use lib.ListN.{length}
 use Rattle.records.specs.Answers.{byteReply}
-use Rattle.records.specs.Layouts.{dayAt}
+use Rattle.records.specs.Layouts.{dayLength, dayAt}
 use Rattle.records.specs.Reading.{dayFieldsOf}
 use Rattle.records.proofs.Fields.{field-out, field-in, past}
+use Rattle.records.proofs.Read.{day-least}
 use borrow.Author.Needs.{needs}
 use Rattle.records.proofs.day.day_fields.Statement.{statement}
 use Rattle.records.proofs.day.day_fields.Tie as tie
 
+-- the fields that every day record has are there
+there : (c : tie.Start) → dayLength ≤ length (now (c .args .s))
+there c = omega (arith, c .pre, day-least (dayAt (now (c .args .s)) 0))
+
 quarters-at-requires : tie.Need-quarters-at-requires
-quarters-at-requires c κs = search needs
+quarters-at-requires c κs = omega (arith, there (c .before))
 
 enum-known-q : tie.Need-enum-known-q
 enum-known-q c = search needs
@@ -28,16 +37,16 @@ returns c =
     rw (c .refusal .ensures, told) (field-out _ _ _ _ _ (sym (ap byteReply told) ∙ quarters-at .quarters-at .ensures))
 
 u16-at-requires : tie.Need-u16-at-requires
-u16-at-requires c κs = search needs
+u16-at-requires c κs = omega (arith, there (c .before .before .before .before .before))
 
 u32-at-requires : tie.Need-u32-at-requires
-u32-at-requires c κs = search needs
+u32-at-requires c κs = omega (arith, there (c .before .before .before .before .before .before))
 
 u16-at-requires-2 : tie.Need-u16-at-requires-2
-u16-at-requires-2 c κs = search needs
+u16-at-requires-2 c κs = omega (arith, there (c .before .before .before .before .before .before .before))
 
 u16-at-requires-3 : tie.Need-u16-at-requires-3
-u16-at-requires-3 c κs = search needs
+u16-at-requires-3 c κs = omega (arith, there (c .before .before .before .before .before .before .before .before))
 
 new-requires : tie.Need-new-requires
 new-requires c κs = search needs

@@ -1,11 +1,10 @@
 -- The end writer: 12 refuses before anything is laid, and then the record lies at the front of the room.
-use mathlib.Core.Path.{refl}
 use denote.Ref.{now}
 use borrow.Author.Tests.{lt-leb, le-leb}
-use Rattle.numbers.specs.Bytes.{bytes16, bytes32}
 use Rattle.terms.specs.Reply.{need}
-use Rattle.records.specs.Layouts.{behind, endBytes}
+use Rattle.records.specs.Layouts.{endBytes}
 use Rattle.writers.specs.Writing.{writeEndOf, roomFor}
+use Rattle.writers.proofs.Fields.{length-end}
 use Rattle.writers.proofs.Writes.{refuses, writes}
 use borrow.Author.Needs.{needs}
 use Rattle.writers.proofs.single.write_end.Statement.{statement}
@@ -30,12 +29,12 @@ same-length : tie.Need-same-length
 same-length c = search needs
 
 returns-2 : tie.Need-returns-2
-unfolding writeEndOf roomFor need endBytes behind bytes32 bytes16
+unfolding writeEndOf roomFor need
 returns-2 c =
     let l = c .before .before in
     let test = l .before .before .before in
     let s = test .before .before in
-    writes (endBytes (record { groups = s .args .groups })) (now (s .args .room)) (simp (le-leb _ _ (test .if1 .left))) refl (rw (l .before .new .ensures) at (l .lay-end .ensures))
+    writes (endBytes (record { groups = s .args .groups })) (now (s .args .room)) (simp (le-leb _ _ (test .if1 .left))) (length-end (record { groups = s .args .groups })) (rw (l .before .new .ensures) at (l .lay-end .ensures))
 
 pub write-end-spec : {M : Type 1} → statement M
 write-end-spec =
