@@ -110,7 +110,7 @@ module _ (day : Day) (s entry : List ℕ) {step : Step} {exit : List ℕ} (o : O
   pub block-inside : (i : ℕ) → i < blockCount s → (at (n3 group) i ≡ pos 0) ⊎ Inside (unitIn s i) (at (n3 group) i)
   block-inside i l =
       let units = read day s (took .long) (took .fields) .units in
-      go (unit-in s (day .«record») (blockCount s) (took .long) units i l) (block-fair .ends-inside i)
+      go (unit-in s _ (blockCount s) (took .long) units i l) (block-fair .ends-inside i)
     where
       down : ℕ → ℤ
       down j = marginsOf (unitIn s j) .«step_down»

@@ -13,7 +13,7 @@ use Rattle.terms.proofs.Replies.{next-is}
 use Rattle.records.specs.declared.day.DayRecord.{DayRecord}
 use Rattle.records.specs.declared.end.EndRecord.{EndRecord}
 use Rattle.records.specs.Layouts.{dayLengthOf, endKind, endLength}
-use Rattle.records.specs.Reading.{keyOf, dayOf, groupHeadOf, endHeadOf, endFieldsOf, endOf}
+use Rattle.records.specs.Reading.{keyOf, judgedBy, dayOf, groupHeadOf, endHeadOf, endFieldsOf, endOf}
 use Rattle.records.proofs.Heads.{head-end}
 use Rattle.records.proofs.Read.{day-read, day-ends, group-read}
 use Rattle.writers.specs.Columns.{Columns, count}
@@ -91,7 +91,7 @@ module _ {entry exit : List ℕ} {r : Answer} {n : ℕ} (done : answer r ≡ is 
   -- A block that our writer made is taken by any open day that takes its quarter, its key and its ages, in a room that its result fits.
   pub block-written : (brp zone quarter made : ℕ) (c : Columns) → BlockWritten brp zone quarter made c entry r exit
       → (day : Day) (room : ℕ) → day .state ≡ Open → couldBeOpen day ≡ true
-      → trips.Joins (groupOver brp zone quarter made c) (day .«record») (day .last) → trips.Fresh c (day .«record») → resultLength (count c) ≤ room
+      → trips.Joins (groupOver brp zone quarter made c) (day .«record») (day .last) → trips.Fresh c (judgedBy (groupOver brp zone quarter made c) (day .«record»)) → resultLength (count c) ≤ room
       → offerOf day exit room
       ≡ is (record { used = n; written = resultLength (count c); day = counted day (keyOf (groupOver brp zone quarter made c)) })
   unfolding blockFieldsOf next
