@@ -12,7 +12,7 @@ use Rattle.terms.specs.Refusals.{answer}
 use Rattle.terms.specs.declared.refusal.Refusal.{Refusal}
 use Rattle.terms.specs.declared.refusal.Answer.{Answer}
 use Rattle.group.specs.Group.{Group, n3}
-use Rattle.group.specs.Columns.{judgement, sumsOf, Judges, SameOutcome}
+use Rattle.group.specs.Columns.{judgement, Judges, SameOutcome}
 use Rattle.group.specs.declared.judge.Judgement.{Judgement}
 use Rattle.group.specs.Accepted.{Accepted}
 use Rattle.group.specs.Demand3.{Demand3}
@@ -32,7 +32,7 @@ use Rattle.writers.specs.Writing.{groupOver, DayWritten, BlockWritten, EndWritt
 use Rattle.writers.proofs.Back.{day-back, block-back, end-back}
 use Rattle.walk.specs.declared.table.Role.the-variants.{Opens, Block, Closes}
 use Rattle.walk.specs.Table.{roleOf}
-use Rattle.blocks.specs.Blocks.{groupResult, blockKey, blockCount, blockGroup, unitResult}
+use Rattle.blocks.specs.Blocks.{groupTold, blockCount, blockGroup, unitResult}
 use Rattle.day.specs.declared.value.Day.{Day}
 use Rattle.day.specs.declared.offer.Step.{Step}
 use Rattle.day.specs.declared.offer.Offered.the-variants.{Taken, Refused}
@@ -106,7 +106,7 @@ line-written-again s l e lent fits = line-again s l e lent fits
 
 module _ (day : Day) (s room : List ℕ) {step : Step} {exit : List ℕ} (o : Offers day s room (Taken step) exit) where
   -- Three steps, verdicts, balance.
-  pub group-by-the-rule : roleOf (byteAt s 0) ≡ Block → groupResultAt exit 0 ≡ groupResult (blockKey s) (blockCount s) (sumsOf (blockGroup s))
+  pub group-by-the-rule : roleOf (byteAt s 0) ≡ Block → groupResultAt exit 0 ≡ groupTold s
   group-by-the-rule = group-told day s room o
 
   pub units-by-the-rule : roleOf (byteAt s 0) ≡ Block → (i : ℕ) → i < blockCount s → unitResultAt exit (resultLength i) ≡ unitResult s i
