@@ -21,6 +21,7 @@ use Rattle.group.proofs.Unique.{judge-unique}
 use Rattle.group.proofs.Demand3.{group-demand3}
 use Rattle.group.proofs.Ties.{group-larger-first}
 use Rattle.records.specs.declared.day.DayRecord.{DayRecord}
+use Rattle.records.specs.declared.group.GroupRecord.{GroupRecord}
 use Rattle.records.specs.declared.end.EndRecord.{EndRecord}
 use Rattle.records.specs.Layouts.{dayAt, groupAt, endAt, groupResultAt, unitResultAt}
 use Rattle.records.specs.Reading.{dayOf, endOf, unitIn}
@@ -89,8 +90,8 @@ module _ {room exit : List ℕ} {r : Answer} {n : ℕ} (done : answer r ≡ is n
   pub day-reads-back : (d : DayRecord) → DayWritten d room r exit → (dayAt exit 0 ≡ d) × (dayOf exit ≡ is d)
   day-reads-back = day-back done
 
-  pub block-reads-back : (brp zone quarter made : ℕ) (c : Columns) → BlockWritten brp zone quarter made c room r exit → Values (groupOver brp zone quarter made c) c exit
-  block-reads-back brp zone quarter made c w = block-back brp zone quarter made c done w
+  pub block-reads-back : (g : GroupRecord) (c : Columns) → BlockWritten g c room r exit → Values (groupOver g c) c exit
+  block-reads-back g c w = block-back g c done w
 
   pub end-reads-back : (x : EndRecord) → EndWritten x room r exit → (endAt exit 0 ≡ x) × (endOf exit (x .groups) ≡ is x)
   end-reads-back = end-back done
@@ -119,7 +120,7 @@ module _ (day : Day) (s room : List ℕ) {step : Step} {exit : List ℕ} (o : Of
     day-written-again = day-same day s room o small lent fits
 
     pub block-written-again : roleOf (byteAt s 0) ≡ Block
-        → BlockWritten (groupAt s 0 .brp) (groupAt s 0 .zone) (groupAt s 0 .quarter) (groupAt s 0 .made) (columnsIn s (blockCount s)) lent r left
+        → BlockWritten (groupAt s 0) (columnsIn s (blockCount s)) lent r left
         → (answer r ≡ is (step .used)) × (take (step .used) left ≡ take (step .used) s)
     block-written-again = block-same day s room o small lent fits
 

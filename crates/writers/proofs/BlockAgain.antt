@@ -124,7 +124,7 @@ module _ (s : List ℕ) (small : Bytes s) (day : DayRecord) (last : Last) (g : G
   ends = block-end s _ (g .count) (headed s 0 groupKind groupLength (read .head) .long) units ∙ rw (counted, end-in s (g .count) (g .count) (omega arith))
 
   -- the writer takes the values
-  takes : (room : ℕ) → n ≤ room → writeBlockOf (g .quarter) values room ≡ is n
+  takes : (room : ℕ) → n ≤ room → writeBlockOf g values room ≡ is n
   unfolding writeBlockOf groupChecks unitsChecked roomFor need next
   takes room h =
       let v = passed .value in
@@ -151,8 +151,8 @@ module _ (s : List ℕ) (small : Bytes s) (day : DayRecord) (last : Last) (g : G
       let rest = run-again (λ (i : ℕ). unitBytes (rowOf values i)) s groupLength (count values) (λ i h. unit-again i (rw counted at h)) in
       rw (first, rest, ends, ← length-units values (count values)) (sym (take-add groupLength (length (unitsBytes values (count values))) s))
 
-  pub block-again : {entry exit : List ℕ} {r : Answer} → n ≤ length entry → BlockWritten (g .brp) (g .zone) (g .quarter) (g .made) (columnsIn s (g .count)) entry r exit
+  pub block-again : {entry exit : List ℕ} {r : Answer} → n ≤ length entry → BlockWritten g (columnsIn s (g .count)) entry r exit
       → (answer r ≡ is n) × (take n exit ≡ take n s)
   block-again {entry} h w =
-      let same : groupOver (g .brp) (g .zone) (g .quarter) (g .made) values ≡ g = rw counted in
+      let same : groupOver g values ≡ g = rw counted in
       written (blockBytes g values) entry n s (rw same at w) (takes (length entry) h) (length-block g values ∙ sym ends) lays
