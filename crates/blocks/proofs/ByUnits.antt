@@ -9,7 +9,7 @@ use Rattle.terms.proofs.Numbers.{isOf, allOf, By, value, by-next}
 use Rattle.records.specs.declared.day.DayRecord.{DayRecord}
 use Rattle.records.specs.declared.group.GroupRecord.{GroupRecord}
 use Rattle.records.specs.Layouts.{groupLength}
-use Rattle.records.specs.Reading.{unitsOf}
+use Rattle.records.specs.Reading.{judgedBy, unitsOf}
 use Rattle.records.proofs.Alike.{Agree, units-kept}
 use Rattle.blocks.specs.declared.check.Block.{Block}
 use Rattle.blocks.specs.Checking.{blockOf, blockUnitsOf}
@@ -20,7 +20,7 @@ afterUnits = []
 
 module _ (s : List ℕ) (group : GroupRecord) (day : DayRecord) where
   abbrev units : Reply ℕ
-  units = unitsOf s groupLength 0 day (group .count)
+  units = unitsOf s groupLength 0 (judgedBy group day) (group .count)
 
   pub units-refuse : {n p : ℕ} → units ≡ refused n p → blockUnitsOf s group day ≡ refused n p
   unfolding blockUnitsOf next
@@ -60,7 +60,7 @@ module _ (s : List ℕ) (group : GroupRecord) (day : DayRecord) where
   by-block l e h = by-next h (λ end _. value _)
 
 -- bytes that agree as far as units go that passed make one block
-pub block-alike : (s t : List ℕ) (n : ℕ) → Agree s t n → (group : GroupRecord) (day : DayRecord) {end : ℕ} → end ≤ n → unitsOf s groupLength 0 day (group .count) ≡ is end
+pub block-alike : (s t : List ℕ) (n : ℕ) → Agree s t n → (group : GroupRecord) (day : DayRecord) {end : ℕ} → end ≤ n → unitsOf s groupLength 0 (judgedBy group day) (group .count) ≡ is end
     → blockUnitsOf t group day ≡ blockUnitsOf s group day
 unfolding blockUnitsOf
-block-alike s t n a group day h e = rw (units-kept s t n a groupLength 0 day (group .count) h e, e)
+block-alike s t n a group day h e = rw (units-kept s t n a groupLength 0 (judgedBy group day) (group .count) h e, e)

@@ -17,7 +17,7 @@ use Rattle.numbers.proofs.Columns.{column-length, column-at, column-past}
 use Rattle.numbers.proofs.Laid.{laid-under}
 use Rattle.terms.specs.Checks.{mostUnits}
 use Rattle.group.specs.Group.{Group, position, n1, n2, n3, step3All, reasonsAll, reasons}
-use Rattle.group.specs.Columns.{sumsBy, sumsOf}
+use Rattle.group.specs.Columns.{sumsBy}
 use Rattle.group.specs.Steps.{directionOf}
 use Rattle.group.specs.Inner.{leftBy, zeros, Aligned, Lost, Judged, CutOff, Explained}
 use Rattle.group.specs.declared.judge.Cut.{Cut}
@@ -27,13 +27,13 @@ use Rattle.group.proofs.Accepting.{judged-by}
 use Rattle.group.proofs.Judging as judging
 use Rattle.group.proofs.Explaining.{reasons-bytes}
 use Rattle.group.proofs.Ranges.{step3-length}
-use Rattle.records.specs.Layouts.{groupResultLength, groupResultBytes, unitResultBytes}
+use Rattle.records.specs.Layouts.{groupAt, groupResultLength, groupResultBytes, unitResultBytes}
 use Rattle.records.specs.Reading.{unitIn}
-use Rattle.records.specs.Decoding.{unitImplicit, numbersIn, takenIn}
+use Rattle.records.specs.Decoding.{unitImplicit, takenIn}
 use Rattle.writers.specs.Runs.{run}
 use Rattle.writers.specs.Results.{resultFrom, unitResultsBytes, resultBytes, resultLength}
 use Rattle.writers.proofs.Lengths.{length-group-result, length-results}
-use Rattle.blocks.specs.Blocks.{groupResult, unitResults, blockKey, blockCount, blockGroup, resultIn, blockResult}
+use Rattle.blocks.specs.Blocks.{groupResult, groupTold, unitResults, blockCount, blockGroup, resultIn, blockResult}
 use Rattle.blocks.specs.Inner.{Passed, Decoded, Cutting, laidUnits, Laying}
 use Rattle.blocks.proofs.Sound.{units-accepted}
 use Rattle.blocks.proofs.Units.{unit-there}
@@ -165,17 +165,17 @@ module _ {s : List ℕ} {p : ℤ} {cut : Cut} {taken : List ℕ} {n0 x1 : List �
           why-is : why ≡ reasons (takenIn s (blockCount s)) (blockGroup s)
           why-is = reasoned ∙ rw (w .marks, w .starts, w .downs, w .ups, told .clamped, told .cut, told .stretched)
 
-          units-laid : laidUnits s why n0 x1 x2 x3 ≡ unitResultsBytes (unitResults (numbersIn s (blockCount s)) (takenIn s (blockCount s)) (blockGroup s)) (blockCount s)
+          units-laid : laidUnits s why n0 x1 x2 x3 ≡ unitResultsBytes (unitResults s (blockCount s)) (blockCount s)
           unfolding laidUnits unitResultsBytes
           units-laid =
               rw start-count
               (run-ext _ _ (blockCount s) (λ i l. rw (why-is, w .starts, told .clamped, told .cut, told .stretched, column-at (λ (k : ℕ). unitIn s k .number) (blockCount s) i 0 l)))
 
           pub written : {one two : List ℕ} → one ≡ laidAt room groupResultLength (laidUnits s why n0 x1 x2 x3)
-              → two ≡ laidAt one 0 (groupResultBytes (groupResult (blockKey s) (blockCount s) sums)) → two ≡ laidAt room 0 (blockResult s)
+              → two ≡ laidAt one 0 (groupResultBytes (groupResult (groupAt s 0) sums)) → two ≡ laidAt room 0 (blockResult s)
           unfolding resultIn resultBytes groupResult
           written e f =
-              let u = unitResults (numbersIn s (blockCount s)) (takenIn s (blockCount s)) (blockGroup s) in
-              let x = groupResult (blockKey s) (blockCount s) (sumsOf (blockGroup s)) in
+              let u = unitResults s (blockCount s) in
+              let x = groupTold s in
               laid-under room groupResultLength (unitResultsBytes u (blockCount s)) 0 (groupResultBytes x) (e ∙ rw units-laid) (f ∙ rw (told .replied)) (omega (arith, length-group-result x))
               (omega (arith, length-group-result x, length-results u (blockCount s), w .enough))

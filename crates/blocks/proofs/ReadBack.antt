@@ -17,23 +17,23 @@ use Rattle.group.specs.Inner.{Judged}
 use Rattle.group.specs.Accepted.{Accepted}
 use Rattle.group.proofs.Accepting.{judged-by}
 use Rattle.group.proofs.Judging.{n1-classed, n2-small, n3-small, n2-few, s1-within, s3-within}
-use Rattle.records.specs.declared.key.Key.{Key}
-use Rattle.records.specs.Layouts.{groupResultAt, unitResultAt, marginsOf}
+use Rattle.records.specs.declared.group.GroupRecord.{GroupRecord}
+use Rattle.records.specs.Layouts.{groupAt, groupResultAt, unitResultAt, marginsOf}
 use Rattle.records.specs.Reading.{unitIn}
-use Rattle.records.specs.Decoding.{unitN0, unitImplicit, numbersIn, takenIn}
+use Rattle.records.specs.Decoding.{unitN0, unitImplicit, takenIn}
 use Rattle.writers.specs.Results.{resultOf, resultFrom, resultLength}
 use Rattle.writers.specs.Trips.{HeldGroupResult, HeldUnitResult}
 use Rattle.writers.proofs.Back.{results-back}
-use Rattle.blocks.specs.Blocks.{groupResult, unitResults, resultIn, blockKey, blockCount, blockGroup, unitResult}
+use Rattle.blocks.specs.Blocks.{groupIn, groupResult, groupTold, unitResults, resultIn, blockCount, blockGroup, blockResult, unitResult}
 
 -- what an accepted group is judged by
 judged : (g : Group) → Accepted g → Judged (position g) (g .n0) (g .stepDown) (g .stepUp) (g .class) (g .n0)
 judged g a = judged-by g a refl
 
 module _ (g : Group) (a : Accepted g) where
-  group-held : (key : Key) (count : ℕ) → HeldGroupResult (groupResult key count (sumsOf g))
+  group-held : (group : GroupRecord) → HeldGroupResult (groupResult group (sumsOf g))
   unfolding groupResult sumsBy
-  group-held key count =
+  group-held group =
       let j = judged g a in
       let p = j .position-small in
       let s1 = s1-within j in
@@ -47,10 +47,11 @@ module _ (g : Group) (a : Accepted g) where
         balance = omega (zarith, neg (position g), minus (negℤ (position g)) (sumZ (n3 g)));
       }
 
-  unit-held : (number : List ℕ) (taken : List ℕ) (i : ℕ) → HeldUnitResult (resultOf (unitResults number taken g) i)
+module _ (s : List ℕ) (count : ℕ) (a : Accepted (groupIn s count)) where
+  unit-held : (i : ℕ) → HeldUnitResult (resultOf (unitResults s count) i)
   unfolding resultFrom
-  unit-held number taken i =
-      let j = judged g a in
+  unit-held i =
+      let j = judged (groupIn s count) a in
       let w0 = a .sound i .n0-small in
       let w1 = n1-classed j .small i in
       let w2 = n2-small j i in
@@ -64,7 +65,7 @@ reason-at taken n0 x1 x2 x3 down up i l =
     column-at (λ k. reasonOf (getD taken k 0) (at n0 k) (at x1 k) (at x2 k) (at x3 k) (marginsAt down up k)) (length n0) i 0 l
 
 module _ (s : List ℕ) (i : ℕ) (l : i < blockCount s) where
-  unit-values : resultOf (unitResults (numbersIn s (blockCount s)) (takenIn s (blockCount s)) (blockGroup s)) i ≡ unitResult s i
+  unit-values : resultOf (unitResults s (blockCount s)) i ≡ unitResult s i
   unfolding resultFrom
   unit-values =
       let count = blockCount s in
@@ -79,16 +80,14 @@ module _ (s : List ℕ) (i : ℕ) (l : i < blockCount s) where
       )
 
 -- bytes that begin with the result of an accepted block
-module _ (s rest exit : List ℕ) (accepted : Accepted (blockGroup s)) (so : exit ≡ resultIn s (blockKey s) (blockCount s) ++ rest) where
-  both-back : (groupResultAt exit 0 ≡ groupResult (blockKey s) (blockCount s) (sumsOf (blockGroup s)))
-      × ((i : ℕ) → i < blockCount s → unitResultAt exit (resultLength i) ≡ resultOf (unitResults (numbersIn s (blockCount s)) (takenIn s (blockCount s)) (blockGroup s)) i)
+module _ (s rest exit : List ℕ) (accepted : Accepted (blockGroup s)) (so : exit ≡ blockResult s ++ rest) where
+  both-back : (groupResultAt exit 0 ≡ groupTold s) × ((i : ℕ) → i < blockCount s → unitResultAt exit (resultLength i) ≡ resultOf (unitResults s (blockCount s)) i)
   unfolding resultIn groupResult
   both-back =
-      results-back (groupResult (blockKey s) (blockCount s) (sumsOf (blockGroup s)))
-      (unitResults (numbersIn s (blockCount s)) (takenIn s (blockCount s)) (blockGroup s)) rest exit so
-      (record { group = group-held (blockGroup s) accepted (blockKey s) (blockCount s); unit = λ i _. unit-held (blockGroup s) accepted (numbersIn s (blockCount s)) (takenIn s (blockCount s)) i })
+      results-back (groupTold s) (unitResults s (blockCount s)) rest exit so
+      (record { group = group-held (blockGroup s) accepted (groupAt s 0); unit = λ i _. unit-held s (blockCount s) accepted i })
 
-  pub group-back : groupResultAt exit 0 ≡ groupResult (blockKey s) (blockCount s) (sumsOf (blockGroup s))
+  pub group-back : groupResultAt exit 0 ≡ groupTold s
   group-back = both-back .0
 
   pub unit-back : (i : ℕ) → i < blockCount s → unitResultAt exit (resultLength i) ≡ unitResult s i

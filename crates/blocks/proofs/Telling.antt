@@ -20,7 +20,7 @@ use Rattle.group.proofs.Amounts.{amounts-all, amounts-only}
 use Rattle.records.specs.declared.day.DayRecord.{DayRecord}
 use Rattle.records.specs.declared.group.GroupRecord.{GroupRecord}
 use Rattle.records.specs.Layouts.{groupLength, groupAt, marginsOf}
-use Rattle.records.specs.Reading.{unitIn, unitsOf}
+use Rattle.records.specs.Reading.{unitIn, judgedBy, unitsOf}
 use Rattle.records.specs.Decoding.{unitN0}
 use Rattle.writers.specs.Results.{resultLength}
 use Rattle.blocks.specs.declared.check.Block.{Block}
@@ -88,11 +88,11 @@ module _ {s : List ℕ} {day : DayRecord} {r : Reading} {class taken : List ℕ}
   told-refusal w e = record { replied = e; decoded = λ end k. absurd (u .fails w end (sym e ∙ k)) }
 
 -- a block by its units
-module _ (s : List ℕ) (group : GroupRecord) (day : DayRecord) (b : Begun s) (g : group ≡ groupAt s 0) where
-  same-count : unitsOf s groupLength 0 day (group .count) ≡ unitsAt s day
-  same-count = ap (λ (x : GroupRecord). unitsOf s groupLength 0 day (x .count)) g
+module _ (s : List ℕ) (group : GroupRecord) (day : DayRecord) (b : Begun s) (g : group ≡ groupAt s 0) {by : DayRecord} (j : by ≡ judgedBy group day) where
+  same-count : unitsOf s groupLength 0 (judgedBy group day) (group .count) ≡ unitsAt s by
+  same-count = ap (λ (x : GroupRecord). unitsOf s groupLength 0 (judgedBy group day) (x .count)) g ∙ ap (unitsAt s) (sym j)
 
-  module _ {r : Units} {class taken : List ℕ} {n0 down up : List ℤ} (u : UnitsTold s day r class taken n0 down up) where
+  module _ {r : Units} {class taken : List ℕ} {n0 down up : List ℤ} (u : UnitsTold s by r class taken n0 down up) where
     pub block-refused : {q : Told} {f : Refusal} → answer (r .end) ≡ refusal f → q .block ≡ B.Refused f → BlockTold s group day q class taken n0 down up
     block-refused e k =
         record {
@@ -106,7 +106,7 @@ module _ (s : List ℕ) (group : GroupRecord) (day : DayRecord) (b : Begun s) (g
         record {
           replied = rw k (sym (units-pass s group day (same-count ∙ sym (u .replied) ∙ e)));
           decoded = λ block _. rw p (u .decoded end e);
-          passed = λ block _. record { day = day; end = end; long = b .long; few = b .few; units = sym (u .replied) ∙ e };
+          passed = λ block _. record { day = by; end = end; long = b .long; few = b .few; units = sym (u .replied) ∙ e };
         }
 
 -- and then 12, or the result

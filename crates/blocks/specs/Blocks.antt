@@ -8,6 +8,7 @@ use Rattle.group.specs.Group.{Group, n1, n2, n3, reasons}
 use Rattle.group.specs.Columns.{asGroup, sumsOf}
 use Rattle.group.specs.declared.judge.Sums.{Sums}
 use Rattle.records.specs.declared.key.Key.{Key}
+use Rattle.records.specs.declared.group.GroupRecord.{GroupRecord}
 use Rattle.records.specs.declared.group_result.GroupResult.{GroupResult}
 use Rattle.records.specs.declared.unit_result.UnitResult.{UnitResult}
 use Rattle.records.specs.Layouts.{groupAt, marginsOf}
@@ -19,18 +20,20 @@ use Rattle.writers.specs.Results.{Results, results, resultBytes}
 abbrev pub groupIn : List ℕ → ℕ → Group
 groupIn s count = asGroup (n0In s count) (pcIn s count) (stepDownIn s count) (stepUpIn s count) (classesIn s count)
 
--- the results of the units of a group, and that of the group
-abbrev pub unitResults : List ℕ → List ℕ → Group → Results
-unitResults number taken g = results number (reasons taken g) (g .n0) (n1 g) (n2 g) (n3 g)
+-- the results of these units, and that of the group of a group record
+abbrev pub unitResults : List ℕ → ℕ → Results
+unitResults s count =
+    let g = groupIn s count in
+    results (numbersIn s count) (reasons (takenIn s count) g) (g .n0) (n1 g) (n2 g) (n3 g)
 
-unfoldable pub groupResult : Key → ℕ → Sums → GroupResult
-groupResult key count sums =
+unfoldable pub groupResult : GroupRecord → Sums → GroupResult
+groupResult group sums =
     record {
-      brp = key .brp;
-      zone = key .zone;
-      quarter = key .quarter;
+      brp = group .brp;
+      zone = group .zone;
+      quarter = group .quarter;
       verdict = sums .verdict;
-      count = count;
+      count = group .count;
       p = sums .p;
       s1 = sums .s1;
       s2 = sums .s2;
@@ -48,12 +51,16 @@ blockCount s = groupAt s 0 .count
 abbrev pub blockGroup : List ℕ → Group
 blockGroup s = groupIn s (blockCount s)
 
--- the result of a block of a key and so many units, and of a block
-unfoldable pub resultIn : List ℕ → Key → ℕ → List ℕ
-resultIn s key count = resultBytes (groupResult key count (sumsOf (groupIn s count))) (unitResults (numbersIn s count) (takenIn s count) (groupIn s count))
+-- the result of the units behind a group record, and of a block
+unfoldable pub resultIn : List ℕ → GroupRecord → List ℕ
+resultIn s group = resultBytes (groupResult group (sumsOf (groupIn s (group .count)))) (unitResults s (group .count))
 
 abbrev pub blockResult : List ℕ → List ℕ
-blockResult s = resultIn s (blockKey s) (blockCount s)
+blockResult s = resultIn s (groupAt s 0)
+
+-- what it tells of the group: the block's own key and count, and the verdict, P, S1, S2, S3 and balance of the steps
+abbrev pub groupTold : List ℕ → GroupResult
+groupTold s = groupResult (groupAt s 0) (sumsOf (blockGroup s))
 
 -- the result of the unit of an index, by the layouts' values and the steps
 abbrev pub unitResult : List ℕ → ℕ → UnitResult

@@ -7,7 +7,7 @@ use Rattle.terms.specs.declared.refusal.Refusal.{Refusal}
 use Rattle.records.specs.declared.day.DayRecord.{DayRecord}
 use Rattle.records.specs.declared.group.GroupRecord.{GroupRecord}
 use Rattle.records.specs.Layouts.{groupLength}
-use Rattle.records.specs.Reading.{keyOf, unitsOf}
+use Rattle.records.specs.Reading.{keyOf, judgedBy, unitsOf}
 use Rattle.writers.specs.Results.{resultLength}
 use Rattle.blocks.specs.declared.check.Block.{Block}
 use Rattle.blocks.specs.declared.check.BlockAnswer.{BlockAnswer}
@@ -17,10 +17,10 @@ use Rattle.blocks.specs.declared.check.BlockAnswer.the-variants as B
 abbrev pub blockOf : GroupRecord → ℕ → Block
 blockOf group end = record { key = keyOf group; count = group .count; used = end; written = resultLength (group .count) }
 
--- each unit in turn, judged by a day record
+-- each unit in turn, judged by what a day record is to its group
 unfoldable pub blockUnitsOf : List ℕ → GroupRecord → DayRecord → Reply Block
 blockUnitsOf s group day =
-    next (unitsOf s groupLength 0 day (group .count)) λ end.
+    next (unitsOf s groupLength 0 (judgedBy group day) (group .count)) λ end.
     is (blockOf group end)
 
 -- an answer as a reply, and the refusal of an answer that is one

@@ -231,7 +231,8 @@ pub fn block_units(
     requires { ⌜ UnitRoom (blockCount (now s)) (now class) (now taken) (now n0) (now «step_down») (now «step_up») ⌝ }
     ensures { λ r. ⌜ BlockTold (now (s .entry)) group day r (now (class .exit)) (now (taken .exit)) (now (n0 .exit)) (now («step_down» .exit)) (now («step_up» .exit)) ⌝ }
 {
-    let units = units_into(s, day, class, taken, n0, step_down, step_up);
+    let by = group.judged_by(day);
+    let units = units_into(s, by, class, taken, n0, step_down, step_up);
     let p = units.p;
     let u = units.end;
     let Answer::Is(end) = u else {

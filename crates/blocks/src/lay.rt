@@ -4,9 +4,9 @@ ghost use mathlib.Core.Path.{_≡_};
 ghost use Prim.Native.Nat.{_≤_};
 ghost use lib.ListN.{length};
 ghost use Rattle.numbers.specs.Bytes.{laidAt};
-ghost use Rattle.records.specs.Layouts.{groupLength, groupResultLength, groupResultBytes, unitResultBytes, unitAt};
+ghost use Rattle.records.specs.Layouts.{groupLength, groupAt, groupResultLength, groupResultBytes, unitResultBytes, unitAt};
 ghost use Rattle.writers.specs.Results.{resultFrom};
-ghost use Rattle.blocks.specs.Blocks.{groupResult, blockKey, blockCount};
+ghost use Rattle.blocks.specs.Blocks.{groupResult};
 ghost use Rattle.blocks.specs.Inner.{laidUnits, UnitLaying, Laying};
 use group::judge::Sums;
 use numbers::bytes::lay_i32;
@@ -84,7 +84,7 @@ pub fn lay_unit_results(
 // The group's result; its key and count are the block's own.
 pub fn lay_group_result(room: &mut [u8], s: &[u8], sums: Sums)
     requires { ⌜ (groupLength ≤ length (now s)) × (groupResultLength ≤ length (now room)) ⌝ }
-    ensures { λ _. ⌜ now (room .exit) ≡ laidAt (now (room .entry)) 0 (groupResultBytes (groupResult (blockKey (now (s .entry))) (blockCount (now (s .entry))) sums)) ⌝ }
+    ensures { λ _. ⌜ now (room .exit) ≡ laidAt (now (room .entry)) 0 (groupResultBytes (groupResult (groupAt (now (s .entry)) 0) sums)) ⌝ }
 {
     let p = sums.p;
     let s1 = sums.s1;

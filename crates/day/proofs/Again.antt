@@ -85,7 +85,7 @@ module _ (day : Day) (s entry : List ℕ) {step : Step} {exit : List ℕ} (o : O
 
     -- A block that was taken is what the writer makes of its values as columns.
     pub block-same : roleOf (byteAt s 0) ≡ Block
-        → BlockWritten (groupAt s 0 .brp) (groupAt s 0 .zone) (groupAt s 0 .quarter) (groupAt s 0 .made) (columnsIn s (blockCount s)) room r left
+        → BlockWritten (groupAt s 0) (columnsIn s (blockCount s)) room r left
         → (answer r ≡ is (step .used)) × (take (step .used) left ≡ take (step .used) s)
     unfolding groupOf next
     block-same k w =

@@ -16,9 +16,8 @@ use Rattle.terms.specs.Reply.{Reply, is, next}
 use Rattle.terms.proofs.Replies.{need-is, next-is}
 use Rattle.records.specs.declared.group.GroupRecord.{GroupRecord}
 use Rattle.records.specs.declared.unit.UnitRecord.{UnitRecord}
-use Rattle.records.specs.declared.key.Key.{Key}
-use Rattle.records.specs.Layouts.{groupLength, marginsOf, endLength}
-use Rattle.records.specs.Reading.{dayEnd, unitPlace, keyOf, unitIn}
+use Rattle.records.specs.Layouts.{groupLength, groupAt, marginsOf, endLength}
+use Rattle.records.specs.Reading.{dayEnd, unitPlace, unitIn}
 use Rattle.records.specs.Decoding.{unitN0, unitImplicit}
 use Rattle.records.proofs.Alike.{Agree, agree, group-same, day-kept, group-kept, end-kept, units-same}
 use Rattle.records.proofs.Accepted.{units-accepted}
@@ -35,7 +34,7 @@ use Rattle.day.specs.declared.offer.Step.{Step}
 use Rattle.day.specs.Days.{opened, counted, closed}
 use Rattle.blocks.proofs.ByUnits.{made, block-alike}
 use Rattle.day.specs.Checking.{blockFieldsOf}
-use Rattle.blocks.specs.Blocks.{resultIn, blockKey, blockCount, blockResult}
+use Rattle.blocks.specs.Blocks.{resultIn, blockCount, blockResult}
 use Rattle.day.specs.Offers.{headFor, dayTaken, blockTaken, endTaken, taken, offerOf, writtenOf}
 use Rattle.day.proofs.ByKind.{head-came}
 use Rattle.day.proofs.Read.{read}
@@ -84,13 +83,13 @@ module _ (s t : List ℕ) (n : ℕ) (a : Agree s t n) where
       rw (a .same 0 (omega arith)) (sym (past _ _ _ _ some (past _ _ _ _ (p .0) (past _ _ _ _ some (past _ _ _ _ (m .0) (past _ _ _ _ whole (sym (w .1))))))))
 
   -- the result of so many units
-  result-kept : (key : Key) (count : ℕ) → unitPlace s count ≤ n → resultIn t key count ≡ resultIn s key count
+  result-kept : (group : GroupRecord) → unitPlace s (group .count) ≤ n → resultIn t group ≡ resultIn s group
   unfolding resultIn
-  result-kept key count h =
+  result-kept group h =
       rw (same (λ u. u .number), same (λ u. u .class), same (λ u. bit (unitImplicit u)), same unitN0, same (λ u. u .pc .0), same (λ u. marginsOf u .«step_down»), same (λ u. marginsOf u .«step_up»))
     where
-      same : {X : Type 0} (f : UnitRecord → X) → column count (λ i. f (unitIn t i)) ≡ column count (λ i. f (unitIn s i))
-      same f = column-ext _ _ count (λ i l. ap f (units-same s t n a groupLength i (omega (arith, place-up s groupLength (suc i) count l))))
+      same : {X : Type 0} (f : UnitRecord → X) → column (group .count) (λ i. f (unitIn t i)) ≡ column (group .count) (λ i. f (unitIn s i))
+      same f = column-ext _ _ (group .count) (λ i l. ap f (units-same s t n a groupLength i (omega (arith, place-up s groupLength (suc i) (group .count) l))))
 
 -- what is used has its first record, and lies in the bytes
 record Lies (first used long : ℕ) : Type 0 where
@@ -165,7 +164,7 @@ module _ (day : Day) (s : List ℕ) (room : ℕ) {step : Step} (e : offerOf day 
         go : (g : Bool) → isBlock (roleOf (byteAt s 0)) ≡ g → pick g (blockResult t) [] ≡ pick g (blockResult s) []
         go true q =
             let u = ap (λ (x : Step). x .used) (taken-block day s room e (is-block (roleOf (byteAt s 0)) q) .value) in
-            ap (λ (g : GroupRecord). resultIn t (keyOf g) (g .count)) (group-same s t _ a (omega (arith, place-from s groupLength (blockCount s)))) ∙ result-kept s t _ a (blockKey s) (blockCount s) (omega arith)
+            ap (resultIn t) (group-same s t _ a (omega (arith, place-from s groupLength (blockCount s)))) ∙ result-kept s t _ a (groupAt s 0) (omega arith)
         go false q = refl
 
 -- what was taken has bytes, and lies in those that were offered

@@ -14,7 +14,6 @@ use Rattle.terms.specs.Reply.{Reply, is}
 use Rattle.terms.specs.Refusals.{refusal}
 use Rattle.terms.specs.declared.refusal.Refusal.{Refusal}
 use Rattle.group.specs.Group.{Group, n3}
-use Rattle.group.specs.Columns.{sumsOf}
 use Rattle.group.specs.Accepted.{Accepted}
 use Rattle.group.specs.Demand3.{Demand3}
 use Rattle.group.proofs.Demand3.{group-demand3}
@@ -31,7 +30,7 @@ use Rattle.day.specs.declared.offer.Step.{Step}
 use Rattle.day.specs.declared.offer.Offered.{Offered}
 use Rattle.day.specs.declared.offer.Offered.the-variants as O
 use Rattle.day.specs.Days.{counted}
-use Rattle.blocks.specs.Blocks.{groupResult, blockKey, blockCount, blockGroup, blockResult, unitResult}
+use Rattle.blocks.specs.Blocks.{groupTold, blockKey, blockCount, blockGroup, blockResult, unitResult}
 use Rattle.day.specs.Offers.{dayAfter, roomAfter, writtenOf, Offering, Offers}
 use Rattle.day.proofs.Taking.{refuses, takes}
 use Rattle.day.proofs.Read.{read}
@@ -91,7 +90,7 @@ module _ (day : Day) (s entry : List ℕ) {step : Step} {exit : List ℕ} (o : O
   result-bytes = laid-out day s entry o ∙ rw (written, took .value)
 
   -- by the layouts its group result has the block's key and count, and the verdict, P, S1, S2, S3 and balance of the steps,
-  pub group-told : groupResultAt exit 0 ≡ groupResult (blockKey s) (blockCount s) (sumsOf group)
+  pub group-told : groupResultAt exit 0 ≡ groupTold s
   group-told = group-back s (drop (resultLength (blockCount s)) entry) exit block-accepted result-bytes
 
   -- each unit result has the unit's number and reason, and its n0, n1, n2 and n3,
@@ -110,7 +109,7 @@ module _ (day : Day) (s entry : List ℕ) {step : Step} {exit : List ℕ} (o : O
   pub block-inside : (i : ℕ) → i < blockCount s → (at (n3 group) i ≡ pos 0) ⊎ Inside (unitIn s i) (at (n3 group) i)
   block-inside i l =
       let units = read day s (took .long) (took .fields) .units in
-      go (unit-in s (day .«record») (blockCount s) (took .long) units i l) (block-fair .ends-inside i)
+      go (unit-in s _ (blockCount s) (took .long) units i l) (block-fair .ends-inside i)
     where
       down : ℕ → ℤ
       down j = marginsOf (unitIn s j) .«step_down»

@@ -8,7 +8,7 @@ use Rattle.terms.specs.Reply.{is}
 use Rattle.terms.proofs.Numbers.{isOf, allOf, By, value, by-more, by-need, by-next, faultNumbers}
 use Rattle.records.specs.declared.group.GroupRecord.{GroupRecord}
 use Rattle.records.specs.Layouts.{groupLength}
-use Rattle.records.specs.Reading.{groupFieldsOf, unitsOf}
+use Rattle.records.specs.Reading.{groupFieldsOf, judgedBy, unitsOf}
 use Rattle.records.proofs.Numbers.{headNumbers, dayNumbers, groupNumbers, endNumbers, unitNumbers, by-day, by-group, by-end, by-units}
 use Rattle.walk.specs.declared.table.Role.{Role}
 use Rattle.walk.specs.declared.table.Role.the-variants.{Opens, Block, Closes}
@@ -45,7 +45,7 @@ module _ (day : Day) (s : List ℕ) where
 
   -- a block, by the numbers of its group record and of its units
   module _ (l : List ℕ) (after : allOf (isOf l) (12 ∷ afterUnits) ≡ true) (group : By l (groupFieldsOf s (day .«record») (day .last))) where
-    pub by-taken : ((g : GroupRecord) → groupFieldsOf s (day .«record») (day .last) ≡ is g → By l (unitsOf s groupLength 0 (day .«record») (g .count)))
+    pub by-taken : ((g : GroupRecord) → groupFieldsOf s (day .«record») (day .last) ≡ is g → By l (unitsOf s groupLength 0 (judgedBy g (day .«record»)) (g .count)))
         → (room : ℕ) → By l (blockTaken day s room)
     unfolding blockTaken blockFieldsOf
     by-taken units room =

@@ -98,7 +98,7 @@ module _ (day : Day) (s : List ℕ) (room : ℕ) {step : Step} where
       where
         go : (b : Bool) → isBlock (roleOf (byteAt s 0)) ≡ b → length (pick b (blockResult s) []) ≡ step .written
         go true q =
-            result-length s (blockKey s) (blockCount s) ∙ sym (ap (λ (x : Step). x .written) (taken-block (is-block (roleOf (byteAt s 0)) q) .value))
+            result-length s ∙ sym (ap (λ (x : Step). x .written) (taken-block (is-block (roleOf (byteAt s 0)) q) .value))
         go false q = sym (none-written q)
 
 -- the room after a taken offer

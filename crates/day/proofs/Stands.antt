@@ -15,7 +15,7 @@ use Rattle.records.specs.declared.day.DayRecord.{DayRecord}
 use Rattle.records.specs.declared.group.GroupRecord.{GroupRecord}
 use Rattle.records.specs.declared.unit.UnitRecord.{UnitRecord}
 use Rattle.records.specs.Layouts.{groupLength, unitAt, lengthOf, longestUnit}
-use Rattle.records.specs.Reading.{unitHeadOf, unitEnd, placeFrom, unitFieldsOf, unitOf, unitsOf}
+use Rattle.records.specs.Reading.{unitHeadOf, unitEnd, placeFrom, unitFieldsOf, unitOf, judgedBy, unitsOf}
 use Rattle.records.specs.Longest.{longestBlock}
 use Rattle.records.proofs.Alike.{Agree, agree, day-kept, group-kept, end-kept, units-same}
 use Rattle.records.proofs.Accepted.{units-accepted}
@@ -89,13 +89,13 @@ module _ (s t : List ℕ) (a : Agree s t (length s)) where
 
   -- ---- what is offered
   block-units-stand : (g : GroupRecord) (d : DayRecord) → groupLength ≤ length s → Stands (blockUnitsOf s g d) (blockUnitsOf t g d)
-  block-units-stand g d h c = go (unitsOf s groupLength 0 d (g .count)) refl
+  block-units-stand g d h c = go (unitsOf s groupLength 0 (judgedBy g d) (g .count)) refl
     where
-      go : (x : Reply ℕ) → unitsOf s groupLength 0 d (g .count) ≡ x → blockUnitsOf t g d ≡ blockUnitsOf s g d
-      go (is end) e = block-alike s t (length s) a g d (units-accepted s groupLength 0 d (g .count) h e .within) e
+      go : (x : Reply ℕ) → unitsOf s groupLength 0 (judgedBy g d) (g .count) ≡ x → blockUnitsOf t g d ≡ blockUnitsOf s g d
+      go (is end) e = block-alike s t (length s) a g d (units-accepted s groupLength 0 (judgedBy g d) (g .count) h e .within) e
       go (refused n p) e =
           let r = units-refuse s g d e in
-          let u = units-stand groupLength 0 d (g .count) (ap cutShort e ∙ sym (ap cutShort r) ∙ c) in
+          let u = units-stand groupLength 0 (judgedBy g d) (g .count) (ap cutShort e ∙ sym (ap cutShort r) ∙ c) in
           units-refuse t g d (u ∙ e) ∙ sym r
 
   block-stands : (day : Day) (room : ℕ) → groupLength ≤ length s → Stands (blockTaken day s room) (blockTaken day t room)

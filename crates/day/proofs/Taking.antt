@@ -9,18 +9,15 @@ use Rattle.numbers.proofs.Laid.{laid-front}
 use Rattle.terms.specs.Reply.{Reply, is, refused, next}
 use Rattle.terms.specs.Refusals.{refusal}
 use Rattle.terms.specs.declared.refusal.Refusal.{Refusal}
-use Rattle.records.specs.declared.key.Key.{Key}
 use Rattle.records.specs.declared.group_result.GroupResult.{GroupResult}
 use Rattle.records.specs.Reading.{dayFieldsOf, endFieldsOf}
-use Rattle.records.specs.Decoding.{numbersIn, takenIn}
-use Rattle.group.specs.Columns.{sumsOf}
 use Rattle.records.specs.Layouts.{groupResultBytes}
 use Rattle.writers.specs.Results.{Results, resultLength, resultBytes, unitResultsBytes}
 use Rattle.writers.proofs.Lengths.{length-group-result, length-results}
 use Rattle.day.specs.declared.value.Day.{Day}
 use Rattle.day.specs.declared.offer.Step.{Step}
 use Rattle.day.specs.declared.offer.Offered.the-variants as O
-use Rattle.blocks.specs.Blocks.{groupIn, groupResult, unitResults, resultIn}
+use Rattle.blocks.specs.Blocks.{groupResult, resultIn, blockCount, blockResult}
 use Rattle.day.specs.Days.{opened, closed}
 use Rattle.day.specs.Offers.{dayTaken, endTaken, dayAfter, roomAfter, Gave, Offering}
 
@@ -65,7 +62,6 @@ length-result g r =
     let b = length-results r (g .count) in
     length-append (groupResultBytes g) (unitResultsBytes r (g .count)) ∙ omega arith
 
-pub result-length : (s : List ℕ) (key : Key) (count : ℕ) → length (resultIn s key count) ≡ resultLength count
+pub result-length : (s : List ℕ) → length (blockResult s) ≡ resultLength (blockCount s)
 unfolding resultIn groupResult
-result-length s key count =
-    length-result (groupResult key count (sumsOf (groupIn s count))) (unitResults (numbersIn s count) (takenIn s count) (groupIn s count))
+result-length s = length-result _ _

@@ -11,9 +11,10 @@ use Rattle.terms.specs.Refusals.{answer}
 use Rattle.terms.specs.declared.refusal.Answer.{Answer}
 use Rattle.terms.proofs.Replies.{next-is}
 use Rattle.records.specs.declared.day.DayRecord.{DayRecord}
+use Rattle.records.specs.declared.group.GroupRecord.{GroupRecord}
 use Rattle.records.specs.declared.end.EndRecord.{EndRecord}
 use Rattle.records.specs.Layouts.{dayLengthOf, endKind, endLength}
-use Rattle.records.specs.Reading.{keyOf, dayOf, groupHeadOf, endHeadOf, endFieldsOf, endOf}
+use Rattle.records.specs.Reading.{keyOf, judgedBy, dayOf, groupHeadOf, endHeadOf, endFieldsOf, endOf}
 use Rattle.records.proofs.Heads.{head-end}
 use Rattle.records.proofs.Read.{day-read, day-ends, group-read}
 use Rattle.writers.specs.Columns.{Columns, count}
@@ -89,14 +90,14 @@ module _ {entry exit : List ℕ} {r : Answer} {n : ℕ} (done : answer r ≡ is 
   end-written x w day room p q g = end-taken day exit (rw p q) p room (rw g at (end-back done x w .1))
 
   -- A block that our writer made is taken by any open day that takes its quarter, its key and its ages, in a room that its result fits.
-  pub block-written : (brp zone quarter made : ℕ) (c : Columns) → BlockWritten brp zone quarter made c entry r exit
+  pub block-written : (g : GroupRecord) (c : Columns) → BlockWritten g c entry r exit
       → (day : Day) (room : ℕ) → day .state ≡ Open → couldBeOpen day ≡ true
-      → trips.Joins (groupOver brp zone quarter made c) (day .«record») (day .last) → trips.Fresh c (day .«record») → resultLength (count c) ≤ room
+      → trips.Joins (groupOver g c) (day .«record») (day .last) → trips.Fresh c (judgedBy (groupOver g c) (day .«record»)) → resultLength (count c) ≤ room
       → offerOf day exit room
-      ≡ is (record { used = n; written = resultLength (count c); day = counted day (keyOf (groupOver brp zone quarter made c)) })
+      ≡ is (record { used = n; written = resultLength (count c); day = counted day (keyOf (groupOver g c)) })
   unfolding blockFieldsOf next
-  block-written brp zone quarter made c w day room p q joins aged h =
-      let t = block-taken brp zone quarter made c done w (day .«record») (day .last) joins aged in
+  block-written g c w day room p q joins aged h =
+      let t = block-taken g c done w (day .«record») (day .last) joins aged in
       let a = group-read exit (day .«record») (day .last) (t .0) in
-      let fields : blockFieldsOf day exit ≡ is (blockOf (groupOver brp zone quarter made c) n) = rw (a .fields) (units-pass exit _ _ (t .1)) in
+      let fields : blockFieldsOf day exit ≡ is (blockOf (groupOver g c) n) = rw (a .fields) (units-pass exit _ _ (t .1)) in
       block-fits day exit (rw p q) p room (a .head) fields h

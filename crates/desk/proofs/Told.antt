@@ -15,7 +15,6 @@ use Rattle.terms.specs.Reply.{Reply, is, refused}
 use Rattle.terms.specs.Checks.{mostUnits}
 use Rattle.terms.proofs.Replies.{next-is}
 use Rattle.terms.proofs.Numbers.{isOf, each, By, number, by-more, by-next}
-use Rattle.group.specs.Columns.{sumsOf}
 use Rattle.group.specs.Demand3.{Demand3}
 use Rattle.records.specs.declared.day.DayRecord.{DayRecord}
 use Rattle.records.specs.Layouts.{groupResultAt, unitResultAt}
@@ -26,7 +25,7 @@ use Rattle.records.proofs.Numbers.{headNumbers, dayNumbers, firstNumbers, unitN
 use Rattle.writers.specs.Results.{resultLength}
 use Rattle.walk.specs.declared.table.Role.the-variants.{Block}
 use Rattle.walk.specs.Table.{roleOf}
-use Rattle.blocks.specs.Blocks.{groupResult, blockKey, blockCount, blockGroup, blockResult, unitResult}
+use Rattle.blocks.specs.Blocks.{groupTold, blockCount, blockGroup, blockResult, unitResult}
 use Rattle.day.specs.declared.offer.Step.{Step}
 use Rattle.day.specs.Days.{opened}
 use Rattle.day.specs.Offers.{offerOf, blockOfferOf, roomAfter}
@@ -134,7 +133,7 @@ module _ (day block entry : List ℕ) {n : ℕ} {exit : List ℕ} (c : CallTaken
   pub call-bytes : exit ≡ blockResult block ++ drop (resultLength (blockCount block)) entry
   call-bytes = result-bytes (opened (c .opens)) block entry (c .taken) (c .is-block)
 
-  pub call-group-told : groupResultAt exit 0 ≡ groupResult (blockKey block) (blockCount block) (sumsOf (blockGroup block))
+  pub call-group-told : groupResultAt exit 0 ≡ groupTold block
   call-group-told = group-told (opened (c .opens)) block entry (c .taken) (c .is-block)
 
   pub call-unit-told : (i : ℕ) → i < blockCount block → unitResultAt exit (resultLength i) ≡ unitResult block i

@@ -16,7 +16,7 @@ use Rattle.terms.specs.declared.refusal.Refusal.{Refusal}
 use Rattle.terms.proofs.Same.{whyBy, why-back, why-same}
 use Rattle.terms.proofs.Numbers.{isOf, allOf, By, value, number, by-each, by-need}
 use Rattle.records.specs.Layouts as L
-use Rattle.records.specs.Reading.{unitEnd, placeFrom, unitPlace, unitIn, unitHeadOf, faultPlace, groupFieldsOf, unitsOf}
+use Rattle.records.specs.Reading.{unitEnd, placeFrom, unitPlace, unitIn, unitHeadOf, faultPlace, groupFieldsOf, judgedBy, unitsOf}
 use Rattle.records.proofs.UnitHeads.{length-least, read-kind, read-long}
 use Rattle.records.proofs.Numbers.{headNumbers, dayNumbers, groupNumbers, endNumbers, by-group}
 use Rattle.records.proofs.Read.{group-passed}
@@ -133,7 +133,7 @@ module _ (day : Day) (s : List ℕ) (n p : ℕ) (own : ofUnit (whyBy n) ≡ true
   not-of l e k = no {A = ℕ} l e (number n p k) refl
 
   abbrev units : Reply ℕ
-  units = unitsOf s L.groupLength 0 (day .«record») (L.groupAt s 0 .count)
+  units = unitsOf s L.groupLength 0 (judgedBy (L.groupAt s 0) (day .«record»)) (L.groupAt s 0 .count)
 
   fields-first : blockFieldsOf day s ≡ refused n p → units ≡ refused n p
   unfolding blockFieldsOf
@@ -188,14 +188,14 @@ module _ (day : Day) (s : List ℕ) (r : Refusal) where
       let e = row day s (unitPlace s i) (unitPlace s (i - 1)) fault (r .place) (omega (arith, place)) in
       rw (spot, why, e, hand)
 
-  by-first : (other : isOf headNumbers (numberOf (r .why)) ≡ true → ⊥) → groupWhole s ≡ true → First (numberOf (r .why)) (r .place) other s L.groupLength 0 (day .«record») (L.groupAt s 0 .count) → Plant day s r
+  by-first : (other : isOf headNumbers (numberOf (r .why)) ≡ true → ⊥) → groupWhole s ≡ true → First (numberOf (r .why)) (r .place) other s L.groupLength 0 (judgedBy (L.groupAt s 0) (day .«record»)) (L.groupAt s 0 .count) → Plant day s r
   by-first other whole f =
       let i = f .index in
       let at = unitPlace s i in
       let fault = f .fault in
       let why : r .why ≡ whyOf fault = why-same (r .why) (whyOf fault) (f .number) in
       let low : at ≤ r .place = omega (arith, f .place) in
-      let within : r .place < unitEnd s at = omega (arith, f .place, place-inside s at (f .least) (day .«record») fault (f .faulty)) in
+      let within : r .place < unitEnd s at = omega (arith, f .place, place-inside s at (f .least) _ fault (f .faulty)) in
       let behind : L.groupLength ≤ r .place = omega (arith, place-from s L.groupLength i) in
       let spot : spotOf s (r .place) ≡ Unit (record { index = 0 + i; at = at; before = unitPlace s (i - 1) }) =
       spot-found whole behind ∙ spot-at s (r .place) 0 L.groupLength L.groupLength i (L.groupAt s 0 .count) (f .counted) low within ∙ rw (before-one i) in
@@ -208,7 +208,7 @@ module _ (day : Day) (s : List ℕ) (r : Refusal) where
         why = why;
         place = f .place;
         field = field-at s at fault;
-        apart = λ w. ends-apart s at (f .least) (day .«record») (f .faulty ∙ ap Faulty w);
+        apart = λ w. ends-apart s at (f .least) _ (f .faulty ∙ ap Faulty w);
         named = named-at i fault why spot (f .place) (number-at-hand s at (f .head));
       }
 
@@ -217,4 +217,4 @@ module _ (day : Day) (s : List ℕ) (r : Refusal) where
       let own = ap ofUnit (why-back (r .why)) ∙ u in
       let f = reached day s (numberOf (r .why)) (r .place) own room e in
       let other = not-of day s (numberOf (r .why)) (r .place) own headNumbers refl in
-      by-first other (f .whole) (first (numberOf (r .why)) (r .place) other s L.groupLength 0 (day .«record») (L.groupAt s 0 .count) (f .refusing))
+      by-first other (f .whole) (first (numberOf (r .why)) (r .place) other s L.groupLength 0 _ (L.groupAt s 0 .count) (f .refusing))

@@ -14,7 +14,7 @@ use Rattle.terms.specs.declared.refusal.Fault.the-variants as A
 use Rattle.terms.specs.declared.refusal.Refusal.{Refusal}
 use Rattle.records.specs.declared.day.DayRecord.{DayRecord}
 use Rattle.records.specs.Layouts as L
-use Rattle.records.specs.Reading.{faultPlace, unitPlace, unitIn, unitsOf}
+use Rattle.records.specs.Reading.{faultPlace, unitPlace, unitIn, judgedBy, unitsOf}
 use Rattle.day.specs.declared.value.Day.{Day}
 use Rattle.finding.specs.declared.named.Subject.the-variants as S
 use Rattle.finding.specs.declared.named.UnitField.the-variants as U
@@ -96,8 +96,8 @@ pub record Plant (day : Day) (s : List ℕ) (r : Refusal) : Type 0 where
   pub index : ℕ
   pub fault : Fault
   pub counted : index < L.groupAt s 0 .count
-  pub pass : unitsOf s L.groupLength 0 (day .«record») index ≡ is (unitPlace s index)
-  pub fails : unitsOf s L.groupLength 0 (day .«record») (suc index) ≡ refusal r
+  pub pass : unitsOf s L.groupLength 0 (judgedBy (L.groupAt s 0) (day .«record»)) index ≡ is (unitPlace s index)
+  pub fails : unitsOf s L.groupLength 0 (judgedBy (L.groupAt s 0) (day .«record»)) (suc index) ≡ refusal r
   pub why : r .why ≡ whyOf fault
   pub place : r .place ≡ unitPlace s index + faultPlace fault
   pub field : (fault ≡ A.WorkingCrossed → ⊥) → layout (faultField s (unitPlace s index) fault) .place ≡ faultPlace fault

@@ -14,7 +14,6 @@ use Rattle.terms.specs.Reply.{is}
 use Rattle.terms.specs.Refusals.{numberOf, refusal}
 use Rattle.terms.specs.declared.refusal.Refusal.{Refusal}
 use Rattle.terms.proofs.Replies.{need-is, next-is}
-use Rattle.group.specs.Columns.{sumsOf}
 use Rattle.records.specs.declared.group_result.GroupResult.{GroupResult}
 use Rattle.records.specs.Layouts.{resultCount, groupResultAt}
 use Rattle.writers.specs.Results.{resultLength}
@@ -26,7 +25,7 @@ use Rattle.day.specs.declared.value.Day.{Day}
 use Rattle.records.specs.Longest.{longestResult}
 use Rattle.day.specs.declared.offer.Step.{Step}
 use Rattle.day.specs.declared.offer.Offered.the-variants as O
-use Rattle.blocks.specs.Blocks.{groupResult, blockKey, blockCount, blockGroup, blockResult}
+use Rattle.blocks.specs.Blocks.{groupResult, groupTold, blockCount, blockResult}
 use Rattle.day.specs.Offers.{headFor, offerOf, writtenOf, Offers}
 use Rattle.day.proofs.Taking.{result-length}
 use Rattle.day.proofs.Outcomes.{taken-block, reply}
@@ -82,13 +81,10 @@ present day s room e = ltb-true 0 (length s) (need-is _ _ _ _ (next-is _ _ e .1 
 module _ (day : Day) (s entry : List ℕ) (long : length entry ≡ longestResult) where
   module _ {step : Step} {exit : List ℕ} (o : Offers day s entry (O.Taken step) exit) where
     module _ (block : roleOf (byteAt s 0) ≡ Block) where
-      abbrev group : GroupResult
-      group = groupResult (blockKey s) (blockCount s) (sumsOf (blockGroup s))
-
-      told : groupResultAt exit 0 ≡ group
+      told : groupResultAt exit 0 ≡ groupTold s
       told = group-told day s entry o block
 
-      told-again : groupResultAt (blockResult s) 0 ≡ group
+      told-again : groupResultAt (blockResult s) 0 ≡ groupTold s
       told-again = group-back s [] (blockResult s) (block-accepted day s entry o block) (sym (append-nil (blockResult s)))
 
       same-unit : (i : ℕ) → i < blockCount s → unitLineAt exit i ≡ unitLineAt (blockResult s) i
@@ -109,7 +105,7 @@ module _ (day : Day) (s entry : List ℕ) (long : length entry ≡ longestResult
           let t = taken-block day s (length entry) (reply day s entry o) block in
           let n : length exit ≡ length (blockResult s) + length (drop (resultLength (blockCount s)) entry) =
           ap length (result-bytes day s entry o block) ∙ length-append (blockResult s) (drop (resultLength (blockCount s)) entry) in
-          let m = result-length s (blockKey s) (blockCount s) in
+          let m = result-length s in
           record { few = omega (arith, counted, t .enough, long); long = omega (arith, counted) }
 
     lines-agree : (left : Day) → acceptedLines (roleOf (byteAt s 0)) left exit ≡ acceptedLines (roleOf (byteAt s 0)) left (writtenOf s)

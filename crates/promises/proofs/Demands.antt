@@ -12,7 +12,7 @@ use Rattle.terms.specs.Refusals.{answer}
 use Rattle.terms.specs.declared.refusal.Refusal.{Refusal}
 use Rattle.terms.specs.declared.refusal.Answer.{Answer}
 use Rattle.group.specs.Group.{Group, n3}
-use Rattle.group.specs.Columns.{judgement, sumsOf, Judges, SameOutcome}
+use Rattle.group.specs.Columns.{judgement, Judges, SameOutcome}
 use Rattle.group.specs.declared.judge.Judgement.{Judgement}
 use Rattle.group.specs.Accepted.{Accepted}
 use Rattle.group.specs.Demand3.{Demand3}
@@ -21,6 +21,7 @@ use Rattle.group.proofs.Unique.{judge-unique}
 use Rattle.group.proofs.Demand3.{group-demand3}
 use Rattle.group.proofs.Ties.{group-larger-first}
 use Rattle.records.specs.declared.day.DayRecord.{DayRecord}
+use Rattle.records.specs.declared.group.GroupRecord.{GroupRecord}
 use Rattle.records.specs.declared.end.EndRecord.{EndRecord}
 use Rattle.records.specs.Layouts.{dayAt, groupAt, endAt, groupResultAt, unitResultAt}
 use Rattle.records.specs.Reading.{dayOf, endOf, unitIn}
@@ -32,7 +33,7 @@ use Rattle.writers.specs.Writing.{groupOver, DayWritten, BlockWritten, EndWritt
 use Rattle.writers.proofs.Back.{day-back, block-back, end-back}
 use Rattle.walk.specs.declared.table.Role.the-variants.{Opens, Block, Closes}
 use Rattle.walk.specs.Table.{roleOf}
-use Rattle.blocks.specs.Blocks.{groupResult, blockKey, blockCount, blockGroup, unitResult}
+use Rattle.blocks.specs.Blocks.{groupTold, blockCount, blockGroup, unitResult}
 use Rattle.day.specs.declared.value.Day.{Day}
 use Rattle.day.specs.declared.offer.Step.{Step}
 use Rattle.day.specs.declared.offer.Offered.the-variants.{Taken, Refused}
@@ -89,8 +90,8 @@ module _ {room exit : List ℕ} {r : Answer} {n : ℕ} (done : answer r ≡ is n
   pub day-reads-back : (d : DayRecord) → DayWritten d room r exit → (dayAt exit 0 ≡ d) × (dayOf exit ≡ is d)
   day-reads-back = day-back done
 
-  pub block-reads-back : (brp zone quarter made : ℕ) (c : Columns) → BlockWritten brp zone quarter made c room r exit → Values (groupOver brp zone quarter made c) c exit
-  block-reads-back brp zone quarter made c w = block-back brp zone quarter made c done w
+  pub block-reads-back : (g : GroupRecord) (c : Columns) → BlockWritten g c room r exit → Values (groupOver g c) c exit
+  block-reads-back g c w = block-back g c done w
 
   pub end-reads-back : (x : EndRecord) → EndWritten x room r exit → (endAt exit 0 ≡ x) × (endOf exit (x .groups) ≡ is x)
   end-reads-back = end-back done
@@ -106,7 +107,7 @@ line-written-again s l e lent fits = line-again s l e lent fits
 
 module _ (day : Day) (s room : List ℕ) {step : Step} {exit : List ℕ} (o : Offers day s room (Taken step) exit) where
   -- Three steps, verdicts, balance.
-  pub group-by-the-rule : roleOf (byteAt s 0) ≡ Block → groupResultAt exit 0 ≡ groupResult (blockKey s) (blockCount s) (sumsOf (blockGroup s))
+  pub group-by-the-rule : roleOf (byteAt s 0) ≡ Block → groupResultAt exit 0 ≡ groupTold s
   group-by-the-rule = group-told day s room o
 
   pub units-by-the-rule : roleOf (byteAt s 0) ≡ Block → (i : ℕ) → i < blockCount s → unitResultAt exit (resultLength i) ≡ unitResult s i
@@ -119,7 +120,7 @@ module _ (day : Day) (s room : List ℕ) {step : Step} {exit : List ℕ} (o : Of
     day-written-again = day-same day s room o small lent fits
 
     pub block-written-again : roleOf (byteAt s 0) ≡ Block
-        → BlockWritten (groupAt s 0 .brp) (groupAt s 0 .zone) (groupAt s 0 .quarter) (groupAt s 0 .made) (columnsIn s (blockCount s)) lent r left
+        → BlockWritten (groupAt s 0) (columnsIn s (blockCount s)) lent r left
         → (answer r ≡ is (step .used)) × (take (step .used) left ≡ take (step .used) s)
     block-written-again = block-same day s room o small lent fits
 

@@ -103,6 +103,10 @@ groupHeadOf s = headOf s 0 groupKind groupLength
 unfoldable pub groupOf : List ℕ → DayRecord → Last → Reply GroupRecord
 groupOf s day last = next (groupHeadOf s) λ _. groupFieldsOf s day last
 
+-- the day record that a group's units are judged by: the day's own
+abbrev pub judgedBy : GroupRecord → DayRecord → DayRecord
+judgedBy group day = day
+
 -- ---- the end record
 unfoldable pub endFieldsOf : List ℕ → ℕ → Reply EndRecord
 endFieldsOf s groups = need (eqb (endAt s 0 .groups) groups) 14 (endGroups .place) (is (endAt s 0))

@@ -8,7 +8,7 @@ ghost use Rattle.terms.specs.Refusals.{numberOf};
 ghost use Rattle.terms.specs.Checks.{unitCount};
 ghost use Rattle.records.specs.Answers.{byteReply, numberReply, keyReply, groupReply, groupRefusal};
 ghost use Rattle.records.specs.Layouts.{groupLength, groupBrp, groupQuarter, groupCount, groupMade, groupWith, groupAt};
-ghost use Rattle.records.specs.Reading.{aged, positionWhy, follows, keyOf, groupFieldsOf, groupOf};
+ghost use Rattle.records.specs.Reading.{aged, positionWhy, follows, keyOf, judgedBy, groupFieldsOf, groupOf};
 use crate::age::is_aged;
 use crate::age::position_why;
 use crate::day::DayRecord;
@@ -74,6 +74,13 @@ impl GroupRecord {
         ensures { λ r. ⌜ r ≡ unitCount count ⌝ }
     {
         is_count(count)
+    }
+
+    // The day record that the group's units are judged by: the day's own.
+    pub fn judged_by(self, day: DayRecord) -> DayRecord
+        ensures { λ r. ⌜ r ≡ judgedBy self day ⌝ }
+    {
+        day
     }
 }
 

@@ -1,19 +1,20 @@
 -- What the block writer accepted has passed each of its tests in turn.
 use Prim.Native.Nat.{ℕ, zero, suc, _+_, _≤_, _<_}
-use mathlib.Core.Path.{_≡_}
+use mathlib.Core.Path.{_≡_, sym, ap, _∙_}
 use mathlib.Core.Bool.{true, and-eq-true-iff}
 use mathlib.Core.List.{List, [], _∷_}
 use native.Mathlib.Omega.{arith}
 use borrow.Author.Tests.{ltb-true, leb-true, eqb-true}
-use Rattle.terms.specs.Reply.{is}
+use Rattle.terms.specs.Reply.{Reply, is}
 use Rattle.terms.specs.Refusals.{passed, firstFault}
 use Rattle.terms.specs.Checks.{mostUnits}
 use Rattle.terms.specs.declared.refusal.Checked.{Checked}
 use Rattle.terms.specs.declared.refusal.Checked.the-variants.{Fine}
 use Rattle.terms.proofs.Replies.{need-is, next-is}
 use Rattle.terms.proofs.Scan.{all-fine}
+use Rattle.records.specs.declared.group.GroupRecord.{GroupRecord}
 use Rattle.writers.specs.Columns.{Columns, count, same, others, even, rowChecks}
-use Rattle.writers.specs.Writing.{roomFor, groupChecks, blockLength, unitsChecked, writeBlockOf}
+use Rattle.writers.specs.Writing.{roomFor, groupChecks, blockLength, unitsChecked, writeBlockOf, groupOver}
 use Rattle.writers.specs.Inner.{Enough, Long}
 
 -- lengths that are all the same are enough for as many, and for fewer
@@ -39,29 +40,34 @@ pub long-below : (c : Columns) {units i : ℕ} → Long units c → i < units �
 long-below c l h = record { few = omega (arith, l .few); number = omega (arith, l .number); others = fewer (others c) (l .others) (omega arith) }
 
 -- the group's own fields
-pub record Grouped (quarter units : ℕ) : Type 0 where
-  pub early : quarter < 100
+pub record Grouped (g : GroupRecord) (units : ℕ) : Type 0 where
+  pub early : g .quarter < 100
   pub some : 1 ≤ units
   pub few : units ≤ mostUnits
 
-pub grouped : (quarter units : ℕ) {n : ℕ} → groupChecks quarter units ≡ is n → Grouped quarter units
+pub grouped : (g : GroupRecord) (units : ℕ) {n : ℕ} → groupChecks g units ≡ is n → Grouped g units
 unfolding groupChecks
-grouped quarter units e =
+grouped g units e =
     let a = need-is _ _ _ _ e in
     let b = and-eq-true-iff _ _ .0 (need-is _ _ _ _ (a .1) .0) in
-    record { early = ltb-true quarter 100 (a .0); some = leb-true 1 units (b .0); few = leb-true units mostUnits (b .1) }
+    record { early = ltb-true (g .quarter) 100 (a .0); some = leb-true 1 units (b .0); few = leb-true units mostUnits (b .1) }
+
+-- the count of units is the columns': the group record's own is not asked for
+pub asked : {g h : GroupRecord} (c : Columns) (room : ℕ) {x : Reply ℕ} → h ≡ g → x ≡ writeBlockOf h c room → writeBlockOf (groupOver g c) c room ≡ x
+unfolding writeBlockOf groupChecks
+asked c room e f = sym (f ∙ ap (λ (y : GroupRecord). writeBlockOf y c room) e)
 
 -- the whole block
-pub record Accepted (quarter : ℕ) (c : Columns) (room n : ℕ) : Type 0 where
+pub record Accepted (g : GroupRecord) (c : Columns) (room n : ℕ) : Type 0 where
   pub evenly : even c ≡ true
-  pub group : Grouped quarter (count c)
+  pub group : Grouped g (count c)
   pub fine : (i : ℕ) → i < count c → rowChecks c i ≡ Fine
   pub bytes : n ≡ blockLength c
   pub enough : n ≤ room
 
-pub accepted : (quarter : ℕ) (c : Columns) (room : ℕ) {n : ℕ} → writeBlockOf quarter c room ≡ is n → Accepted quarter c room n
+pub accepted : (g : GroupRecord) (c : Columns) (room : ℕ) {n : ℕ} → writeBlockOf g c room ≡ is n → Accepted g c room n
 unfolding writeBlockOf unitsChecked roomFor
-accepted quarter c room {n} e =
+accepted g c room {n} e =
     let evenly = need-is _ _ _ _ e in
     let group = next-is _ _ (evenly .1) in
     let units = next-is _ _ (group .1 .1) in
@@ -72,7 +78,7 @@ accepted quarter c room {n} e =
     let told : units .0 ≡ n = cc (fits .1) in
     record {
       evenly = evenly .0;
-      group = grouped quarter (count c) (group .1 .0);
+      group = grouped g (count c) (group .1 .0);
       fine = λ i l. all-fine (rowChecks c) 0 (count c) (each .1 .0) i (omega arith) (omega arith);
       bytes = omega arith;
       enough = omega arith;

@@ -20,7 +20,7 @@ use Rattle.records.specs.declared.group_result.GroupResult.{GroupResult}
 use Rattle.records.specs.declared.key.Last.{Last}
 use Rattle.records.specs.Layouts.{dayAt, dayBytes, groupLength, groupBytes, unitAt, unitBytes, lengthOf, endAt, endBytes}
 use Rattle.records.specs.Layouts.{groupResultLength, groupResultAt, groupResultBytes, unitResultLength, unitResultAt, unitResultBytes}
-use Rattle.records.specs.Reading.{dayOf, groupOf, endOf, also, unitFaults, unitsOf, unitEnd, placeFrom, unitPlace, unitIn}
+use Rattle.records.specs.Reading.{dayOf, groupOf, judgedBy, endOf, also, unitFaults, unitsOf, unitEnd, placeFrom, unitPlace, unitIn}
 use Rattle.records.proofs.Accepted.{Sound, sound}
 use Rattle.writers.specs.Results.{Results, resultOf, unitResultsBytes, resultBytes}
 use Rattle.writers.specs.Columns.{Columns, rowOf, count, floorAt, rowChecks}
@@ -96,16 +96,15 @@ aged-fine : (c : Columns) (day : DayRecord) (i : ℕ) → i < count c → rowChe
 unfolding unitFaults also check
 aged-fine c day i h e f = simp (e, f .each i h)
 
-module _ (brp zone quarter made : ℕ) (c : Columns) {entry exit : List ℕ} {r : Answer} {n : ℕ} (done : answer r ≡ is n)
-    (w : BlockWritten brp zone quarter made c entry r exit) where
+module _ (g : GroupRecord) (c : Columns) {entry exit : List ℕ} {r : Answer} {n : ℕ} (done : answer r ≡ is n) (w : BlockWritten g c entry r exit) where
   abbrev group : GroupRecord
-  group = groupOver brp zone quarter made c
+  group = groupOver g c
 
-  in-room : (writeBlockOf quarter c (length entry) ≡ is n) × (exit ≡ blockBytes group c ++ drop n entry)
+  in-room : (writeBlockOf g c (length entry) ≡ is n) × (exit ≡ blockBytes group c ++ drop n entry)
   in-room = front (blockBytes group c) entry w done
 
-  took : Accepted quarter c (length entry) n
-  took = accepted quarter c (length entry) (in-room .0)
+  took : Accepted g c (length entry) n
+  took = accepted g c (length entry) (in-room .0)
 
   sounds : (i : ℕ) → i < count c → Sound (rowOf c i)
   sounds i h = sound (rowOf c i) (floorAt c i) (took .fine i h)
@@ -114,21 +113,21 @@ module _ (brp zone quarter made : ℕ) (c : Columns) {entry exit : List ℕ} {r 
   unfolding blockBytes
   group-front = in-room .1 ∙ append-assoc (groupBytes group) (unitsBytes c (count c)) (drop n entry)
 
-  pub block-back : Values (groupOver brp zone quarter made c) c exit
+  pub block-back : Values (groupOver g c) c exit
   block-back =
       record {
         group = group-read exit (unitsBytes c (count c) ++ drop n entry) group group-front;
         unit = unit-in group c (drop n entry) exit (in-room .1) sounds;
       }
 
-  pub block-taken : (day : DayRecord) (last : Last) → Joins (groupOver brp zone quarter made c) day last → Fresh c day
-      → (groupOf exit day last ≡ is (groupOver brp zone quarter made c)) × (unitsOf exit groupLength 0 day (count c) ≡ is n)
+  pub block-taken : (day : DayRecord) (last : Last) → Joins (groupOver g c) day last → Fresh c (judgedBy (groupOver g c) day)
+      → (groupOf exit day last ≡ is (groupOver g c)) × (unitsOf exit groupLength 0 (judgedBy (groupOver g c) day) (count c) ≡ is n)
   unfolding floorAt unitsEnd
   block-taken day last j k =
       let few = le-leb 1 (count c) (took .group .some) in
       let many = le-leb (count c) mostUnits (took .group .few) in
       let counted : unitCount (count c) ≡ true = rw (few, many) in
-      let all = units-in group c (drop n entry) exit (in-room .1) sounds day (λ i h. aged-fine c day i h (took .fine i h) k) (count c) 0 (omega arith) in
+      let all = units-in group c (drop n entry) exit (in-room .1) sounds _ (λ i h. aged-fine c _ i h (took .fine i h) k) (count c) 0 (omega arith) in
       (group-reads exit (unitsBytes c (count c) ++ drop n entry) group group-front day last counted j, all ∙ ap is (sym (took .bytes)))
 
 -- ---- the result of a block

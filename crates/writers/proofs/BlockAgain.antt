@@ -24,7 +24,7 @@ use Rattle.records.specs.declared.key.Last.{Last}
 use Rattle.records.specs.Layouts.{groupKind, groupLength, unitBytes, lengthOf}
 use Rattle.records.specs.Inner.{isWhole}
 use Rattle.records.proofs.UnitHeads.{read-whole}
-use Rattle.records.specs.Reading.{permitted, groupOf, valueFaults, unitFaults, unitOf, unitsOf, placeFrom, unitPlace, unitIn}
+use Rattle.records.specs.Reading.{permitted, groupOf, judgedBy, valueFaults, unitFaults, unitOf, unitsOf, placeFrom, unitPlace, unitIn}
 use Rattle.records.proofs.Accepted.{unit-is, block-end}
 use Rattle.records.proofs.Checks.{also-fine}
 use Rattle.records.proofs.Heads.{headed}
@@ -102,7 +102,7 @@ most q e =
     (λ k. either (eqb q 96) (eqb q 100) k (λ h. omega (arith, eqb-true q 96 h)) (λ h. omega (arith, eqb-true q 100 h)))
 
 module _ (s : List ℕ) (small : Bytes s) (day : DayRecord) (last : Last) (g : GroupRecord) {n : ℕ} (right : permitted (day .quarters) ≡ true)
-    (group : groupOf s day last ≡ is g) (units : unitsOf s groupLength 0 day (g .count) ≡ is n) where
+    (group : groupOf s day last ≡ is g) (units : unitsOf s groupLength 0 (judgedBy g day) (g .count) ≡ is n) where
   abbrev values : Columns
   values = columnsIn s (g .count)
 
@@ -117,14 +117,14 @@ module _ (s : List ℕ) (small : Bytes s) (day : DayRecord) (last : Last) (g : G
 
   reads : (i : ℕ) → i < g .count → Read s i
   unfolding floorIn placeFrom
-  reads i h = read-all s day 0 (g .count) units i (omega arith) (omega arith)
+  reads i h = read-all s _ 0 (g .count) units i (omega arith) (omega arith)
 
   -- where they end is the block's length
   ends : n ≡ blockLength values
-  ends = block-end s day (g .count) (headed s 0 groupKind groupLength (read .head) .long) units ∙ rw (counted, end-in s (g .count) (g .count) (omega arith))
+  ends = block-end s _ (g .count) (headed s 0 groupKind groupLength (read .head) .long) units ∙ rw (counted, end-in s (g .count) (g .count) (omega arith))
 
   -- the writer takes the values
-  takes : (room : ℕ) → n ≤ room → writeBlockOf (g .quarter) values room ≡ is n
+  takes : (room : ℕ) → n ≤ room → writeBlockOf g values room ≡ is n
   unfolding writeBlockOf groupChecks unitsChecked roomFor need next
   takes room h =
       let v = passed .value in
@@ -151,8 +151,8 @@ module _ (s : List ℕ) (small : Bytes s) (day : DayRecord) (last : Last) (g : G
       let rest = run-again (λ (i : ℕ). unitBytes (rowOf values i)) s groupLength (count values) (λ i h. unit-again i (rw counted at h)) in
       rw (first, rest, ends, ← length-units values (count values)) (sym (take-add groupLength (length (unitsBytes values (count values))) s))
 
-  pub block-again : {entry exit : List ℕ} {r : Answer} → n ≤ length entry → BlockWritten (g .brp) (g .zone) (g .quarter) (g .made) (columnsIn s (g .count)) entry r exit
+  pub block-again : {entry exit : List ℕ} {r : Answer} → n ≤ length entry → BlockWritten g (columnsIn s (g .count)) entry r exit
       → (answer r ≡ is n) × (take n exit ≡ take n s)
   block-again {entry} h w =
-      let same : groupOver (g .brp) (g .zone) (g .quarter) (g .made) values ≡ g = rw counted in
+      let same : groupOver g values ≡ g = rw counted in
       written (blockBytes g values) entry n s (rw same at w) (takes (length entry) h) (length-block g values ∙ sym ends) lays

@@ -6,6 +6,7 @@ use Rattle.terms.specs.Reply.{Reply}
 use Rattle.terms.specs.declared.refusal.Answer.{Answer}
 use Rattle.terms.proofs.Same.{answer-same}
 use Rattle.records.specs.declared.day.DayRecord.{DayRecord}
+use Rattle.records.specs.declared.group.GroupRecord.{GroupRecord}
 use Rattle.records.specs.declared.end.EndRecord.{EndRecord}
 use Rattle.writers.specs.Columns.{Columns}
 use Rattle.writers.specs.Writing.{Wrote, DayWritten, EndWritten, BlockWritten}
@@ -20,6 +21,5 @@ module _ (entry : List ℕ) {r q : Answer} {exit other : List ℕ} where
   pub write-end-unique : (e : EndRecord) → EndWritten e entry r exit → EndWritten e entry q other → (r ≡ q) × (exit ≡ other)
   write-end-unique e a b = wrote-unique a b
 
-  pub write-block-unique : (brp zone quarter made : ℕ) (c : Columns) → BlockWritten brp zone quarter made c entry r exit
-      → BlockWritten brp zone quarter made c entry q other → (r ≡ q) × (exit ≡ other)
-  write-block-unique brp zone quarter made c a b = wrote-unique a b
+  pub write-block-unique : (g : GroupRecord) (c : Columns) → BlockWritten g c entry r exit → BlockWritten g c entry q other → (r ≡ q) × (exit ≡ other)
+  write-block-unique g c a b = wrote-unique a b

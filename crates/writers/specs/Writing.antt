@@ -44,9 +44,9 @@ writeEndOf room = roomFor endLength room
 abbrev pub EndWritten : EndRecord → List ℕ → Answer → List ℕ → Type 0
 EndWritten e entry r exit = Wrote (writeEndOf (length entry)) (endBytes e) entry r exit
 
--- a group: 4, 5
-unfoldable pub groupChecks : ℕ → ℕ → Reply ℕ
-groupChecks quarter units = need (ltb quarter 100) 4 0 (need (unitCount units) 5 0 (is units))
+-- a group of so many units: 4, 5
+unfoldable pub groupChecks : GroupRecord → ℕ → Reply ℕ
+groupChecks g units = need (ltb (g .quarter) 100) 4 0 (need (unitCount units) 5 0 (is units))
 
 -- where the records of so many units end: each begins where the one before ends, the first behind the group record
 unfoldable pub unitsEnd : Columns → ℕ → ℕ
@@ -61,16 +61,16 @@ unfoldable pub unitsChecked : Columns → Reply ℕ
 unitsChecked c = next (firstFault (rowChecks c) 0 (count c)) λ _. is (blockLength c)
 
 -- block: 15, 4, 5, its units, then 12
-unfoldable pub writeBlockOf : ℕ → Columns → ℕ → Reply ℕ
-writeBlockOf quarter c room =
+unfoldable pub writeBlockOf : GroupRecord → Columns → ℕ → Reply ℕ
+writeBlockOf g c room =
     need (even c) 15 0
-    (next (groupChecks quarter (count c)) λ _.
+    (next (groupChecks g (count c)) λ _.
     next (unitsChecked c) λ bytes.
     roomFor bytes room)
 
 -- the group record, whose count is that of the columns' units, and then the units' records
-abbrev pub groupOver : ℕ → ℕ → ℕ → ℕ → Columns → GroupRecord
-groupOver brp zone quarter made c = groupWith brp zone quarter (count c) made
+abbrev pub groupOver : GroupRecord → Columns → GroupRecord
+groupOver g c = groupWith (g .brp) (g .zone) (g .quarter) (count c) (g .made)
 
 unfoldable pub unitsBytes : Columns → ℕ → List ℕ
 unitsBytes c units = run (λ (i : ℕ). unitBytes (rowOf c i)) units
@@ -78,6 +78,5 @@ unitsBytes c units = run (λ (i : ℕ). unitBytes (rowOf c i)) units
 unfoldable pub blockBytes : GroupRecord → Columns → List ℕ
 blockBytes g c = groupBytes g ++ unitsBytes c (count c)
 
-abbrev pub BlockWritten : ℕ → ℕ → ℕ → ℕ → Columns → List ℕ → Answer → List ℕ → Type 0
-BlockWritten brp zone quarter made c entry r exit =
-    Wrote (writeBlockOf quarter c (length entry)) (blockBytes (groupOver brp zone quarter made c) c) entry r exit
+abbrev pub BlockWritten : GroupRecord → Columns → List ℕ → Answer → List ℕ → Type 0
+BlockWritten g c entry r exit = Wrote (writeBlockOf g c (length entry)) (blockBytes (groupOver g c) c) entry r exit

@@ -1,6 +1,8 @@
 // The writer of a block: one group record and its units, given as columns.
 ghost use mathlib.Core.Path.{_≡_};
+ghost use lib.ListN.{length};
 ghost use Rattle.terms.specs.Refusals.{answer};
+ghost use Rattle.records.specs.Layouts.{groupWith};
 ghost use Rattle.writers.specs.Columns.{columns, same};
 ghost use Rattle.writers.specs.Writing.{groupChecks, writeBlockOf, BlockWritten};
 use crate::columns::check_units;
@@ -26,11 +28,11 @@ fn are_same(number: usize, others: &[usize]) -> bool
     true
 }
 
-// The group's own fields, in their order.
-fn check_group(quarter: u8, units: usize) -> Answer
-    ensures { λ r. ⌜ answer r ≡ groupChecks quarter units ⌝ }
+// The group's own fields, in their order, with the columns' count of units for its own.
+fn check_group(group: GroupRecord, units: usize) -> Answer
+    ensures { λ r. ⌜ answer r ≡ groupChecks group units ⌝ }
 {
-    if DayRecord::AUTUMN <= quarter {
+    if DayRecord::AUTUMN <= group.quarter {
         return refused(Why::Quarter);
     }
     if !GroupRecord::permits(units) {
@@ -41,7 +43,7 @@ fn check_group(quarter: u8, units: usize) -> Answer
 
 // Everything that a block is refused for, in the writer's order; its length where it passes.
 fn check_block(
-    quarter: u8,
+    group: GroupRecord,
     number: &[u16],
     class: &[u8],
     coincide: &[u8],
@@ -56,7 +58,7 @@ fn check_block(
     upper: &[i32],
     room: usize,
 ) -> Answer
-    ensures { λ r. ⌜ answer r ≡ writeBlockOf quarter (columns (now (number .entry)) (now (class .entry)) (now (coincide .entry)) (now (nominated .entry)) (now (n .entry)) (now (pc .entry)) (now («step_down» .entry)) (now («step_up» .entry)) (now (made .entry)) (now (kind .entry)) (now (lower .entry)) (now (upper .entry))) room ⌝ }
+    ensures { λ r. ⌜ answer r ≡ writeBlockOf group (columns (now (number .entry)) (now (class .entry)) (now (coincide .entry)) (now (nominated .entry)) (now (n .entry)) (now (pc .entry)) (now («step_down» .entry)) (now («step_up» .entry)) (now (made .entry)) (now (kind .entry)) (now (lower .entry)) (now (upper .entry))) room ⌝ }
 {
     let others = [
         class.len(),
@@ -74,7 +76,7 @@ fn check_block(
     if !are_same(number.len(), &others) {
         return refused(Why::Columns);
     }
-    let g = check_group(quarter, number.len());
+    let g = check_group(group, number.len());
     let Answer::Is(_) = g else {
         return g;
     };
@@ -121,10 +123,11 @@ pub fn write_block(
     upper: &[i32],
     room: &mut [u8],
 ) -> Answer
-    ensures { λ r. ⌜ BlockWritten brp zone quarter made (columns (now (number .entry)) (now (class .entry)) (now (coincide .entry)) (now (nominated .entry)) (now (n .entry)) (now (pc .entry)) (now («step_down» .entry)) (now («step_up» .entry)) (now («margins_made» .entry)) (now (kind .entry)) (now (lower .entry)) (now (upper .entry))) (now (room .entry)) r (now (room .exit)) ⌝ }
+    ensures { λ r. ⌜ BlockWritten (groupWith brp zone quarter (length (now (number .entry))) made) (columns (now (number .entry)) (now (class .entry)) (now (coincide .entry)) (now (nominated .entry)) (now (n .entry)) (now (pc .entry)) (now («step_down» .entry)) (now («step_up» .entry)) (now («margins_made» .entry)) (now (kind .entry)) (now (lower .entry)) (now (upper .entry))) (now (room .entry)) r (now (room .exit)) ⌝ }
 {
+    let group = GroupRecord::new(brp, zone, quarter, 0, made);
     let checked = check_block(
-        quarter,
+        group,
         number,
         class,
         coincide,

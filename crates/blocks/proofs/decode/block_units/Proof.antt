@@ -1,4 +1,4 @@
--- The answer of the units is the block's.
+-- The answer of the units, judged by what the day record is to their group, is the block's.
 use mathlib.Core.Path.{refl, ap, _∙_}
 use Rattle.terms.specs.Refusals.{answer}
 use Rattle.blocks.specs.declared.check.BlockAnswer.the-variants as B
@@ -11,8 +11,14 @@ use Rattle.blocks.proofs.decode.block_units.Tie as tie
 abbrev units : tie.After-p → tie.After-units-into
 units c = let back = c .before .before .before .before .before in back .before .before .before
 
+abbrev judged : tie.After-units-into → tie.After-judged-by
+judged c = let lent = c .before .before .before .before .before in lent .before
+
 abbrev entry : tie.After-units-into → tie.Start
-entry c = let lent = c .before .before .before .before .before in lent .before .before .before .before
+entry c = judged c .before .before .before .before
+
+judged-by-requires : tie.Need-judged-by-requires
+judged-by-requires c κs = search needs
 
 units-into-requires : tie.Need-units-into-requires
 units-into-requires c κs = search needs
@@ -47,7 +53,7 @@ returns c =
     let read = units (told .before .before) in
     let start = entry read in
     let e = ap answer (told .enum-told .given .1) in
-    block-refused _ _ _ (start .pre .0 .0) (start .pre .0 .1) (read .units-into .ensures) (e ∙ rw (c .refusal .ensures, told .enum-told .given .1)) refl
+    block-refused _ _ _ (start .pre .0 .0) (start .pre .0 .1) (judged read .judged-by .ensures) (read .units-into .ensures) (e ∙ rw (c .refusal .ensures, told .enum-told .given .1)) refl
 
 of-requires : tie.Need-of-requires
 of-requires c κs = search needs
@@ -72,12 +78,13 @@ returns-2 c =
     let known = c .before .before in
     let read = units (known .before .before) in
     let start = entry read in
-    block-passed _ _ _ (start .pre .0 .0) (start .pre .0 .1) (read .units-into .ensures) (ap answer (known .u .given .1)) (ap B.Is (c .of .ensures)) refl
+    block-passed _ _ _ (start .pre .0 .0) (start .pre .0 .1) (judged read .judged-by .ensures) (read .units-into .ensures) (ap answer (known .u .given .1)) (ap B.Is (c .of .ensures)) refl
 
 pub block-units-spec : {M : Type 1} → statement M
 block-units-spec =
     tie.close
     (tie.spec
+    judged-by-requires
     units-into-requires
     enum-known-u
     enum-told

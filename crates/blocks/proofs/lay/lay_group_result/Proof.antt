@@ -11,7 +11,7 @@ use Rattle.numbers.specs.Bytes.{byteAt, be16, bytes16, bytes32, bits32}
 use Rattle.numbers.proofs.Laid.{laid-next, laid-under, length-laid}
 use Rattle.records.specs.Layouts.{behind, groupAt, groupResultBytes}
 use Rattle.writers.proofs.Lengths.{length-group-result}
-use Rattle.blocks.specs.Blocks.{groupResult, blockKey, blockCount}
+use Rattle.blocks.specs.Blocks.{groupResult}
 use Rattle.blocks.proofs.Laying.{laid-quantity}
 use Rattle.blocks.proofs.lay.lay_group_result.Statement.{statement}
 use Rattle.blocks.proofs.lay.lay_group_result.Tie as tie
@@ -164,7 +164,7 @@ same-length c =
     let lay-i32 = u16-at .before .before .before in
     let s2 = lay-i32 .before .before .before .before .before in
     let s = s2 .before .before .before .before .before in
-    let g = groupResult (blockKey (now (s .args .s))) (blockCount (now (s .args .s))) (s .args .sums) in
+    let g = groupResult (groupAt (now (s .args .s)) 0) (s .args .sums) in
     let n = length-group-result g in
     let h = s .pre .1 in
     ap length (returns c) ∙ length-laid (now (s .args .room)) 0 (groupResultBytes g) (omega arith)

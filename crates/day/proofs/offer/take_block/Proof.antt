@@ -94,7 +94,7 @@ returns-3 c =
     let wrote = rw (← yes) at (t .room) in
     let p = group-passed (now (x .s)) (x .day .«record») (x .day .last) e in
     let l = took-long (now (x .s)) _ (x .day .«record») (now (x .room)) yes (p .value) in
-    takes-room _ _ _ _ (right ∙ rw (← yes, c .counted .ensures)) (result-length (now (x .s)) _ _ ∙ sym l) wrote
+    takes-room _ _ _ _ (right ∙ rw (← yes, c .counted .ensures)) (result-length (now (x .s)) ∙ sym l) wrote
 
 pub take-block-spec : {M : Type 1} → statement M
 take-block-spec =
