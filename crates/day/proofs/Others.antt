@@ -25,7 +25,7 @@ use Rattle.day.specs.declared.offer.Step.{Step}
 use Rattle.day.specs.declared.offer.Offered.{Offered}
 use Rattle.day.specs.Days.{counted, closed, possible}
 use Rattle.day.specs.Checking.{blockFieldsOf, blockHeadFor, checkOf}
-use Rattle.day.specs.Offers.{headFor, dayTaken, blockTaken, endTaken, taken, offerOf, writtenOf, offerReply, roomAfter, Offers}
+use Rattle.day.specs.Offers.{headFor, blockTaken, endTaken, taken, offerOf, writtenOf, offerReply, roomAfter, Offers}
 use Rattle.day.specs.Others.{by, Agrees, this, that, agreed, Lengths, lengths}
 use Rattle.day.specs.Reached.{Reached}
 use Rattle.day.proofs.ByKind.{head-came}

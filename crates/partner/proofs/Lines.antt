@@ -13,7 +13,7 @@ use Rattle.terms.specs.Reply.{is, refused, need, next}
 use Rattle.terms.specs.Refusals.{answer}
 use Rattle.terms.specs.Checks.{inRange}
 use Rattle.terms.specs.declared.refusal.Answer.{Answer}
-use Rattle.records.proofs.Accepted.{range-within}
+use Rattle.terms.proofs.Passing.{range-within}
 use Rattle.writers.specs.Writing.{roomFor}
 use Rattle.writers.proofs.Back.{front}
 use Rattle.partner.specs.declared.form.Form.{Form}

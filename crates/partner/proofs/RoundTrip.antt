@@ -12,7 +12,7 @@ use lib.Signed.{leZ}
 use Rattle.terms.specs.Reply.{Reply, is, need, next}
 use Rattle.terms.specs.Checks.{inRange}
 use Rattle.terms.proofs.Replies.{need-is, next-is}
-use Rattle.records.proofs.Accepted.{range-within}
+use Rattle.terms.proofs.Passing.{range-within}
 use Rattle.writers.specs.Writing.{roomFor}
 use Rattle.partner.specs.declared.fields.Held.{Held}
 use Rattle.partner.specs.declared.form.Form.{Form}

@@ -19,7 +19,7 @@ use Rattle.records.proofs.Heads.{whole-headed}
 use Rattle.records.proofs.UnitHeads.{plain-body, plain-whole, interval-body, interval-whole}
 use Rattle.blocks.specs.declared.decode.Reading.{Reading}
 use Rattle.blocks.specs.Blocks.{blockCount}
-use Rattle.blocks.proofs.Units.{Going, back, added-back, added-fits, start, upto, below, past, room, not-there, not-marked, small, turn, hand-on, take-up, end, ended, broken, came}
+use Rattle.blocks.proofs.Units.{Going, back, added-back, added-fits, upto, below, past, room, not-there, not-marked, small, turn, take-up, end, ended, broken, came}
 use Rattle.blocks.proofs.decode.read_on.Statement.{statement}
 use Rattle.blocks.proofs.decode.read_on.Tie as tie
 
