@@ -1,8 +1,8 @@
 -- A block that passed its check: its columns may be judged, and what is judged, laid and summed of them is the block's result.
-use Prim.Native.Nat.{ℕ, zero, suc, _+_, _*_, _≤_, _<_}
-use mathlib.Core.Path.{_≡_, refl, sym, ap, ap₂, _∙_}
+use Prim.Native.Nat.{ℕ, _≤_, _<_}
+use mathlib.Core.Path.{_≡_, sym, ap, _∙_}
 use mathlib.Core.Bool.{Bool, true, false}
-use mathlib.Core.List.{List, _++_}
+use mathlib.Core.List.{List}
 use native.Mathlib.Decide.{decLt}
 use native.Mathlib.Omega.{arith}
 use lib.IntN.{ℤ, _-ℤ_}
@@ -16,7 +16,7 @@ use Rattle.numbers.specs.Sum.{sumZ, bit}
 use Rattle.numbers.proofs.Columns.{column-length, column-at, column-past}
 use Rattle.numbers.proofs.Laid.{laid-under}
 use Rattle.terms.specs.Checks.{mostUnits}
-use Rattle.group.specs.Group.{Group, position, n1, n2, n3, step3All, reasonsAll, reasons}
+use Rattle.group.specs.Group.{Group, position, step3All, reasonsAll, reasons}
 use Rattle.group.specs.Columns.{sumsBy}
 use Rattle.group.specs.Steps.{directionOf}
 use Rattle.group.specs.Inner.{leftBy, zeros, Aligned, Lost, Judged, CutOff, Explained}
@@ -27,21 +27,16 @@ use Rattle.group.proofs.Accepting.{judged-by}
 use Rattle.group.proofs.Judging as judging
 use Rattle.group.proofs.Explaining.{reasons-bytes}
 use Rattle.group.proofs.Ranges.{step3-length}
-use Rattle.records.specs.Layouts.{groupAt, groupResultLength, groupResultBytes, unitResultBytes}
+use Rattle.records.specs.Layouts.{groupAt, groupResultLength, groupResultBytes}
 use Rattle.records.specs.Reading.{unitIn}
 use Rattle.records.specs.Decoding.{unitImplicit, takenIn}
-use Rattle.writers.specs.Runs.{run}
-use Rattle.writers.specs.Results.{resultFrom, unitResultsBytes, resultBytes, resultLength}
+use Rattle.writers.specs.Results.{unitResultsBytes, resultBytes, resultLength}
+use Rattle.writers.proofs.Runs.{run-same}
 use Rattle.writers.proofs.Lengths.{length-group-result, length-results}
 use Rattle.blocks.specs.Blocks.{groupResult, groupTold, unitResults, blockCount, blockGroup, resultIn, blockResult}
 use Rattle.blocks.specs.Inner.{Passed, Decoded, Cutting, laidUnits, Laying}
 use Rattle.blocks.proofs.Sound.{units-accepted}
 use Rattle.blocks.proofs.Units.{unit-there}
-
-run-ext : (f h : ℕ → List ℕ) (n : ℕ) → ((i : ℕ) → i < n → f i ≡ h i) → run f n ≡ run h n
-unfolding run
-run-ext f h zero e = refl
-run-ext f h (suc n) e = ap₂ _++_ (run-ext f h n (λ i l. e i (omega arith))) (e n (omega arith))
 
 bit-small : (n : ℕ) (f : ℕ → Bool) (i : ℕ) → getD (column n (λ k. bit (f k))) i 0 ≤ 1
 bit-small n f i = go (decLt i n)
@@ -169,7 +164,7 @@ module _ {s : List ℕ} {p : ℤ} {cut : Cut} {taken : List ℕ} {n0 x1 : List �
           unfolding laidUnits unitResultsBytes
           units-laid =
               rw start-count
-              (run-ext _ _ (blockCount s) (λ i l. rw (why-is, w .starts, told .clamped, told .cut, told .stretched, column-at (λ (k : ℕ). unitIn s k .number) (blockCount s) i 0 l)))
+              (run-same _ _ (blockCount s) (λ i l. rw (why-is, w .starts, told .clamped, told .cut, told .stretched, column-at (λ (k : ℕ). unitIn s k .number) (blockCount s) i 0 l)))
 
           pub written : {one two : List ℕ} → one ≡ laidAt room groupResultLength (laidUnits s why n0 x1 x2 x3)
               → two ≡ laidAt one 0 (groupResultBytes (groupResult (groupAt s 0) sums)) → two ≡ laidAt room 0 (blockResult s)

@@ -29,7 +29,7 @@ use Rattle.records.specs.Reading.{unitEnd, placeFrom, unitPlace, unitIn, unitOf
 use Rattle.records.specs.Decoding.{unitN0, unitImplicit, pcIn}
 use Rattle.records.specs.Inner.{isPlain, isInterval, isWhole, marksPass}
 use Rattle.records.proofs.Accepted as accepted
-use Rattle.records.proofs.Accepted.{Sound, unit-in}
+use Rattle.records.proofs.Accepted.{unit-in}
 use Rattle.records.proofs.UnitHeads.{kind-known, ends-fit, unit-lies}
 use Rattle.records.proofs.Marks.{marked, marks-enough, unit-read, read-marked}
 use Rattle.records.proofs.Turns.{unitsAfter, units-steps}
@@ -40,9 +40,6 @@ use Rattle.blocks.proofs.Filling.{Filled, fill-none, fill-more, fill-al
 
 -- the unit of an index passed its checks, and lies whole in the block
 module _ {s : List ℕ} (b : Passed s) where
-  pub unit-sound : (i : ℕ) → i < blockCount s → Sound (unitIn s i)
-  unit-sound = unit-in s (b .day) (blockCount s) (b .long) (b .units)
-
   pub unit-there : (i : ℕ) → i < blockCount s → isWhole s (unitPlace s i) ≡ true
   unit-there = accepted.unit-there s (b .day) (blockCount s) (b .long) (b .units)
 

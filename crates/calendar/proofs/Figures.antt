@@ -1,16 +1,7 @@
 -- Dates that a reader can hold against a wall calendar, by computation from the definitions.
-use Prim.Native.Nat.{ℕ}
 use mathlib.Core.Path.{_≡_, refl}
-use Rattle.calendar.specs.declared.date.Date.{Date}
 use Rattle.calendar.specs.declared.date.Number.the-variants.{Is, No}
-use Rattle.calendar.specs.declared.moment.Moment.{Moment}
-use Rattle.calendar.specs.Calendar.{isLeap, daysOfYear, hasThirty, daysOfMonth, daysOfYears, daysOfMonths, isDate, dayNumber, dayOf, isMoment, minuteNumber, minuteOf}
-
-abbrev date : ℕ → ℕ → ℕ → Date
-date year month day = record { year = year; month = month; day = day }
-
-abbrev moment : Date → ℕ → ℕ → Moment
-moment d hour minute = record { date = d; hour = hour; minute = minute }
+use Rattle.calendar.specs.Calendar.{date, moment, isLeap, daysOfYear, hasThirty, daysOfMonth, daysOfYears, daysOfMonths, isDate, dayNumber, dayOf, isMoment, minuteNumber, minuteOf}
 
 pub first-day : dayOf (date 2000 1 1) ≡ Is 0
 unfolding isLeap daysOfYear hasThirty daysOfMonth daysOfYears daysOfMonths isDate dayNumber dayOf
@@ -28,14 +19,14 @@ pub leap-day : dayOf (date 2000 2 29) ≡ Is 59
 unfolding isLeap daysOfYear hasThirty daysOfMonth daysOfYears daysOfMonths isDate dayNumber dayOf
 leap-day = refl
 
-pub no-leap-day : dayOf (date 2100 2 29) ≡ No
+pub leap-day-none : dayOf (date 2100 2 29) ≡ No
 unfolding isLeap daysOfYear hasThirty daysOfMonth daysOfYears daysOfMonths isDate dayNumber dayOf
-no-leap-day = refl
+leap-day-none = refl
 
-pub no-month : dayOf (date 2026 13 1) ≡ No
+pub month-13-none : dayOf (date 2026 13 1) ≡ No
 unfolding isLeap daysOfYear hasThirty daysOfMonth daysOfYears daysOfMonths isDate dayNumber dayOf
-no-month = refl
+month-13-none = refl
 
-pub no-hour : minuteOf (moment (date 2026 1 14) 24 0) ≡ No
+pub hour-24-none : minuteOf (moment (date 2026 1 14) 24 0) ≡ No
 unfolding isLeap daysOfYear hasThirty daysOfMonth daysOfYears daysOfMonths isDate dayNumber isMoment minuteNumber minuteOf
-no-hour = refl
+hour-24-none = refl

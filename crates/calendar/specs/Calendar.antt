@@ -10,6 +10,13 @@ use Rattle.calendar.specs.declared.moment.Moment.{Moment}
 use Rattle.calendar.specs.declared.moment.Shown.{Shown}
 use Rattle.calendar.specs.declared.moment.Shown.the-variants.{At, Later}
 
+-- ---- a date and a moment, by their parts
+abbrev pub date : ℕ → ℕ → ℕ → Date
+date year month day = record { year = year; month = month; day = day }
+
+abbrev pub moment : Date → ℕ → ℕ → Moment
+moment d hour minute = record { date = d; hour = hour; minute = minute }
+
 -- ---- years and months
 -- every fourth year, but of the hundreds only every fourth
 unfoldable pub isLeap : ℕ → Bool

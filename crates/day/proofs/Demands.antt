@@ -13,7 +13,7 @@ use Rattle.numbers.proofs.Columns.{column-at}
 use Rattle.terms.specs.Reply.{Reply, is}
 use Rattle.terms.specs.Refusals.{refusal}
 use Rattle.terms.specs.declared.refusal.Refusal.{Refusal}
-use Rattle.group.specs.Group.{Group, n3}
+use Rattle.group.specs.Group.{n3}
 use Rattle.group.specs.Accepted.{Accepted}
 use Rattle.group.specs.Demand3.{Demand3}
 use Rattle.group.proofs.Demand3.{group-demand3}
@@ -32,20 +32,15 @@ use Rattle.day.specs.declared.offer.Offered.the-variants as O
 use Rattle.day.specs.Days.{counted}
 use Rattle.blocks.specs.Blocks.{groupTold, blockKey, blockCount, blockGroup, blockResult, unitResult}
 use Rattle.day.specs.Offers.{dayAfter, roomAfter, writtenOf, Offering, Offers}
+use Rattle.day.specs.Answered.{Sayable, value, reason, One}
 use Rattle.day.proofs.Taking.{refuses, takes}
 use Rattle.day.proofs.Read.{read}
 use Rattle.day.proofs.Outcomes.{TakenBlock, taken-block, reply, laid-out, result-at-front, rest-kept}
 use Rattle.blocks.proofs.ReadBack.{group-back, unit-back}
-use Rattle.day.proofs.Sayable.{Sayable, value, reason, offer-sayable}
-use Rattle.day.proofs.Unique.{Same, offering-unique}
+use Rattle.day.proofs.Sayable.{offer-sayable}
+use Rattle.day.proofs.Unique.{offering-unique}
 
 -- ---- Demand 1
-pub record One (day : Day) (s entry : List ℕ) : Type 0 where
-  pub answer : Offered
-  pub room : List ℕ
-  pub right : Offers day s entry answer room
-  pub only : (other : Offered) (other-room : List ℕ) → Offers day s entry other other-room → Same other answer other-room room
-
 one : {right : Reply Step} (bytes : List ℕ) (day : Day) (entry : List ℕ) → Sayable right → (r : Offered) × ((x : List ℕ) × Offering right bytes day entry r x)
 one bytes day entry (value step) = (O.Taken step, (roomAfter (is step) bytes entry, record { gave = takes day step refl; room = refl }))
 one bytes day entry (reason f) = (O.Refused f day, (roomAfter (refusal f) bytes entry, record { gave = refuses day f refl; room = refl }))
@@ -74,15 +69,12 @@ module _ (day : Day) (s entry : List ℕ) {step : Step} {exit : List ℕ} (o : O
   took : TakenBlock day s (length entry) step
   took = taken-block day s (length entry) (reply day s entry o) block
 
-  abbrev group : Group
-  group = blockGroup s
-
   -- the result of the block stands at the front of the room
   written : writtenOf s ≡ blockResult s
   written = rw block
 
   -- 2. The block's units, by the layouts, are a group that passes every check of its columns,
-  pub block-accepted : Accepted group
+  pub block-accepted : Accepted (blockGroup s)
   block-accepted = read day s (took .long) (took .fields) .accepted
 
   -- the result's bytes are those of this group's definitions, and no others are written,
@@ -102,11 +94,11 @@ module _ (day : Day) (s entry : List ℕ) {step : Step} {exit : List ℕ} (o : O
   step-told = took .value
 
   -- 3. Step 2 of it is fair: each sentence is a field of `Demand3`.
-  pub block-fair : Demand3 group
-  block-fair = group-demand3 group block-accepted
+  pub block-fair : Demand3 (blockGroup s)
+  block-fair = group-demand3 (blockGroup s) block-accepted
 
   -- The margins of the group are the working ones: so a unit ends at zero, or inside both its margins and its interval.
-  pub block-inside : (i : ℕ) → i < blockCount s → (at (n3 group) i ≡ pos 0) ⊎ Inside (unitIn s i) (at (n3 group) i)
+  pub block-inside : (i : ℕ) → i < blockCount s → (at (n3 (blockGroup s)) i ≡ pos 0) ⊎ Inside (unitIn s i) (at (n3 (blockGroup s)) i)
   block-inside i l =
       let units = read day s (took .long) (took .fields) .units in
       go (unit-in s _ (blockCount s) (took .long) units i l) (block-fair .ends-inside i)
@@ -117,10 +109,10 @@ module _ (day : Day) (s entry : List ℕ) {step : Step} {exit : List ℕ} (o : O
       up : ℕ → ℤ
       up j = marginsOf (unitIn s j) .«step_up»
 
-      go : Sound (unitIn s i) → (at (n3 group) i ≡ pos 0) ⊎ ((leZ (at (group .stepDown) i) (at (n3 group) i) ≡ true) × (leZ (at (n3 group) i) (at (group .stepUp) i) ≡ true))
-          → (at (n3 group) i ≡ pos 0) ⊎ Inside (unitIn s i) (at (n3 group) i)
+      go : Sound (unitIn s i) → (at (n3 (blockGroup s)) i ≡ pos 0) ⊎ ((leZ (at (blockGroup s .stepDown) i) (at (n3 (blockGroup s)) i) ≡ true) × (leZ (at (n3 (blockGroup s)) i) (at (blockGroup s .stepUp) i) ≡ true))
+          → (at (n3 (blockGroup s)) i ≡ pos 0) ⊎ Inside (unitIn s i) (at (n3 (blockGroup s)) i)
       go sound (inl e) = inl e
       go sound (inr p) =
-          let low : leZ (down i) (at (n3 group) i) ≡ true = rw (column-at down (blockCount s) i (pos 0) l) at (p .0) in
-          let high : leZ (at (n3 group) i) (up i) ≡ true = rw (column-at up (blockCount s) i (pos 0) l) at (p .1) in
-          inr (inside (unitIn s i) sound (at (n3 group) i) low high)
+          let low : leZ (down i) (at (n3 (blockGroup s)) i) ≡ true = rw (column-at down (blockCount s) i (pos 0) l) at (p .0) in
+          let high : leZ (at (n3 (blockGroup s)) i) (up i) ≡ true = rw (column-at up (blockCount s) i (pos 0) l) at (p .1) in
+          inr (inside (unitIn s i) sound (at (n3 (blockGroup s)) i) low high)

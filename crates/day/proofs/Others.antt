@@ -25,8 +25,8 @@ use Rattle.day.specs.declared.offer.Step.{Step}
 use Rattle.day.specs.declared.offer.Offered.{Offered}
 use Rattle.day.specs.Days.{counted, closed, possible}
 use Rattle.day.specs.Checking.{blockFieldsOf, blockHeadFor, checkOf}
-use Rattle.day.specs.Offers.{headFor, dayTaken, blockTaken, endTaken, taken, offerOf, writtenOf, offerReply, roomAfter, Offers}
-use Rattle.day.specs.Others.{by, Agrees, this, that, agreed, Lengths, lengths}
+use Rattle.day.specs.Offers.{headFor, blockTaken, endTaken, taken, offerOf, writtenOf, offerReply, roomAfter, Offers}
+use Rattle.day.specs.Others.{by, Agrees, this, that, agreed, Lengths, lengthsOf}
 use Rattle.day.specs.Reached.{Reached}
 use Rattle.day.proofs.ByKind.{head-came}
 use Rattle.day.proofs.BlockAlone.{head-possible}
@@ -47,15 +47,15 @@ keyed true true true true rest after = agreed refl
 
 -- what a block that passed leaves, whichever day it came to
 room-then : (x : Reply Block) (a b : Day) (room : ℕ)
-    → lengths (next x λ block. need (leb (block .written) room) 12 0 (is (record { used = block .used; written = block .written; day = counted a (block .key) })))
-    ≡ lengths (next x λ block. need (leb (block .written) room) 12 0 (is (record { used = block .used; written = block .written; day = counted b (block .key) })))
+    → lengthsOf (next x λ block. need (leb (block .written) room) 12 0 (is (record { used = block .used; written = block .written; day = counted a (block .key) })))
+    ≡ lengthsOf (next x λ block. need (leb (block .written) room) 12 0 (is (record { used = block .used; written = block .written; day = counted b (block .key) })))
 unfolding next need
 room-then (refused n p) a b room = refl
 room-then (is block) a b room = by-room (leb (block .written) room)
   where
     by-room : (t : Bool)
-        → lengths (need t 12 0 (is (record { used = block .used; written = block .written; day = counted a (block .key) })))
-        ≡ lengths (need t 12 0 (is (record { used = block .used; written = block .written; day = counted b (block .key) })))
+        → lengthsOf (need t 12 0 (is (record { used = block .used; written = block .written; day = counted a (block .key) })))
+        ≡ lengthsOf (need t 12 0 (is (record { used = block .used; written = block .written; day = counted b (block .key) })))
     by-room true = refl
     by-room false = refl
 
@@ -65,7 +65,7 @@ unfolding next
 onward x f e = rw e
 
 -- the room is told by the reply
-same-room : (x y : Reply Step) (bytes room : List ℕ) → lengths x ≡ lengths y → roomAfter x bytes room ≡ roomAfter y bytes room
+same-room : (x y : Reply Step) (bytes room : List ℕ) → lengthsOf x ≡ lengthsOf y → roomAfter x bytes room ≡ roomAfter y bytes room
 unfolding roomAfter
 same-room (is x) (is y) bytes room e =
     let w : _≡_ {A = Lengths} (record { used = x .used; written = x .written }) (record { used = y .used; written = y .written }) = cc e in
@@ -81,7 +81,7 @@ module _ (a b : Day) (d : a .«record» ≡ b .«record») (s : List ℕ) where
       rw d (keyed (ltb (groupAt s 0 .quarter) (b .«record» .quarters)) (unitCount (groupAt s 0 .count)) (follows (a .last) (blockKey s)) (follows (b .last) (blockKey s)) _ _)
 
   abbrev Like : Role → Reply Step → Reply Step → Type 0
-  Like role x y = Agrees role x y (lengths x ≡ lengths y)
+  Like role x y = Agrees role x y (lengthsOf x ≡ lengthsOf y)
 
   block-others : (room : ℕ) → Like R.Block (blockTaken a s room) (blockTaken b s room)
   unfolding blockTaken
@@ -133,12 +133,12 @@ module _ (a b : Day) (d : a .«record» ≡ b .«record») (s : List ℕ) where
     -- What is offered to two open days with one day record, which runs of calls give, is refused by what may depend on other blocks in one of them,
     -- or is refused alike in both, or taken with the same bytes used and written and the same room.
     pub offer-others : (entry : List ℕ) (r q : Offered) (exit left : List ℕ) → Offers a s entry r exit → Offers b s entry q left
-        → Agrees (roleOf (byteAt s 0)) (offerReply r) (offerReply q) ((lengths (offerReply r) ≡ lengths (offerReply q)) × (exit ≡ left))
+        → Agrees (roleOf (byteAt s 0)) (offerReply r) (offerReply q) ((lengthsOf (offerReply r) ≡ lengthsOf (offerReply q)) × (exit ≡ left))
     offer-others entry r q exit left x y = rw (x .gave .replied, y .gave .replied) (go (reply-others (length entry)))
       where
         go : Like (roleOf (byteAt s 0)) (offerOf a s (length entry)) (offerOf b s (length entry))
             → Agrees (roleOf (byteAt s 0)) (offerOf a s (length entry)) (offerOf b s (length entry))
-            ((lengths (offerOf a s (length entry)) ≡ lengths (offerOf b s (length entry))) × (exit ≡ left))
+            ((lengthsOf (offerOf a s (length entry)) ≡ lengthsOf (offerOf b s (length entry))) × (exit ≡ left))
         go (this e) = this e
         go (that e) = that e
         go (agreed e) = agreed (e, x .room ∙ same-room (offerOf a s (length entry)) (offerOf b s (length entry)) (writtenOf s) entry e ∙ sym (y .room))

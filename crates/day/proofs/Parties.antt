@@ -25,9 +25,9 @@ block-result : {day : List ℕ} {blocks : List Part} {end : List ℕ} (p : Part)
 block-result {day} {blocks} {end} p a m = part-result p (a .run) (List·Memᴰ·tail (front blocks (part end [] ∷ []) m))
 
 -- Given two accepted days with the same day record, a block that stands in both has the same result bytes, however other blocks differ.
-pub another-party : (day : List ℕ) (blocks others : List Part) (end other-end : List ℕ) → AcceptedDay day blocks end → AcceptedDay day others other-end
+pub result-in-both : (day : List ℕ) (blocks others : List Part) (end other-end : List ℕ) → AcceptedDay day blocks end → AcceptedDay day others other-end
     → (s x y : List ℕ) → List·Memᴰ (part s x) blocks → List·Memᴰ (part s y) others → x ≡ y
-another-party day blocks others end other-end a b s x y m n = block-result (part s x) a m ∙ sym (block-result (part s y) b n)
+result-in-both day blocks others end other-end a b s x y m n = block-result (part s x) a m ∙ sym (block-result (part s y) b n)
 
 -- Refusal 13 may depend on other blocks, and no other check of a block does.
 pub block-only-13 : (a b : Day) (s : List ℕ) → a .«record» ≡ b .«record» → follows (a .last) (blockKey s) ≡ follows (b .last) (blockKey s)

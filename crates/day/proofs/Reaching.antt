@@ -1,7 +1,7 @@
 -- Every day that a run of calls gives is possible: the keys of its blocks rise strictly, so there are no more groups than keys up to the last one.
 use Prim.Native.Nat.{ℕ, _+_, _*_, _≤_, _<_}
 use mathlib.Core.Path.{_≡_, refl, sym, ap, _∙_}
-use mathlib.Core.Bool.{Bool, true, false, _||_}
+use mathlib.Core.Bool.{Bool, true, false}
 use mathlib.Core.List.{List}
 use native.Mathlib.Omega.{arith}
 use borrow.Author.Tests.{eqb-true, ltb-true, ne-eqb}
@@ -18,7 +18,7 @@ use Rattle.records.specs.declared.key.Last.{Last}
 use Rattle.records.specs.declared.key.Last.the-variants as L
 use Rattle.records.specs.Layouts.{groupAt}
 use Rattle.records.specs.Reading.{permitted, below, follows, dayFieldsOf, endFieldsOf}
-use Rattle.records.proofs.Read.{day-passed}
+use Rattle.records.proofs.Read.{day-passed, quarters-most}
 use Rattle.walk.specs.declared.table.State.{State}
 use Rattle.walk.specs.declared.table.State.the-variants.{Fresh, Open, Closed}
 use Rattle.walk.specs.declared.table.Role.{Role}
@@ -85,15 +85,6 @@ record Risen (day : Day) : Type 0 where
 abbrev Good : Day → Type 0
 Good day = day .state ≡ Open → Risen day
 
-either : {P : Type 0} (a b : Bool) → (a || b) ≡ true → (a ≡ true → P) → (b ≡ true → P) → P
-either true b e f g = f refl
-either false b e f g = g e
-
-most : (quarters : ℕ) → permitted quarters ≡ true → quarters ≤ 100
-most q e =
-    either (eqb q 92) (eqb q 96 || eqb q 100) e (λ h. omega (arith, eqb-true q 92 h))
-    (λ k. either (eqb q 96) (eqb q 100) k (λ h. omega (arith, eqb-true q 96 h)) (λ h. omega (arith, eqb-true q 100 h)))
-
 key-held : (s : List ℕ) → Bytes s → (quarters : ℕ) → quarters ≤ 100 → groupAt s 0 .quarter < quarters → Held (blockKey s)
 unfolding groupAt
 key-held s small quarters h l = record { brp = below16 s small 1; zone = small 3; quarter = omega arith }
@@ -120,7 +111,7 @@ module _ (day : Day) (s : List ℕ) (small : Bytes s) (good : Good day) (room : 
       let t = taken-block day s room e k in
       let before = good (sym (ap (λ (x : Step). x .day .state) (t .value)) ∙ p) in
       let g = read day s (t .long) (t .fields) .passed in
-      let key = key-held s small _ (most _ (before .quarters)) (g .early) in
+      let key = key-held s small _ (quarters-most _ (before .quarters)) (g .early) in
       let up = follows-up (day .last) (blockKey s) (before .last) key (g .after) in
       rw (t .value) (record { quarters = before .quarters; last = key; groups = omega (arith, before .groups, up) })
 

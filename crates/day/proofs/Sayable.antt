@@ -4,19 +4,15 @@ use mathlib.Core.Path.{_≡_, refl}
 use mathlib.Core.List.{List}
 use borrow.Author.Tests.{eqb-true}
 use lib.Dec.{eqb}
-use Rattle.terms.specs.Reply.{Reply, is, refused}
-use Rattle.terms.specs.Refusals.{numberOf, refusal}
-use Rattle.terms.specs.declared.refusal.Refusal.{Refusal}
+use Rattle.terms.specs.Reply.{Reply, refused}
+use Rattle.terms.specs.Refusals.{numberOf}
 use Rattle.terms.proofs.Same.{whyBy}
 use Rattle.terms.proofs.Numbers.{each, By}
 use Rattle.terms.proofs.Numbers as numbers
 use Rattle.day.specs.declared.value.Day.{Day}
 use Rattle.day.specs.Offers.{offerOf}
+use Rattle.day.specs.Answered.{Sayable, value, reason}
 use Rattle.day.proofs.Numbers.{offerNumbers, by-offer}
-
-pub data Sayable {A : Type 0} : Reply A → Type 0 where
-  value : (a : A) → Sayable (is a)
-  reason : (r : Refusal) → Sayable (refusal r)
 
 said : {A : Type 0} {x : Reply A} → By offerNumbers x → Sayable x
 said (numbers.value a) = value a

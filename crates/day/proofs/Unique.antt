@@ -14,6 +14,7 @@ use Rattle.day.specs.declared.offer.Offered.the-variants as O
 use Rattle.blocks.specs.Checking.{blockReply}
 use Rattle.day.specs.Checking.{checkOf}
 use Rattle.day.specs.Offers.{offerReply, dayBack, Offering, Offers}
+use Rattle.day.specs.Answered.{Same}
 
 pub block-answer-same : (a b : BlockAnswer) → blockReply a ≡ blockReply b → a ≡ b
 block-answer-same (B.Is x) (B.Is y) e = ap B.Is (cc)
@@ -29,11 +30,6 @@ offered-same (O.Refused r day) (O.Refused q other) e d = ap₂ O.Refused (refusa
 
 pub check-block-unique : (day : Day) (s : List ℕ) (a b : BlockAnswer) → blockReply a ≡ checkOf day s → blockReply b ≡ checkOf day s → a ≡ b
 check-block-unique day s a b p q = block-answer-same a b (p ∙ sym q)
-
--- two outcomes of one call
-pub record Same (r q : Offered) (x y : List ℕ) : Type 0 where
-  pub reply : r ≡ q
-  pub room : x ≡ y
 
 pub offering-unique : (right : Reply Step) (bytes : List ℕ) (day : Day) (entry : List ℕ) (r q : Offered) {x y : List ℕ}
     → Offering right bytes day entry r x → Offering right bytes day entry q y → Same r q x y

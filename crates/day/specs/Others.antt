@@ -8,14 +8,14 @@ use Rattle.walk.specs.declared.table.Role.the-variants.{Opens, Block, Closes}
 use Rattle.day.specs.declared.offer.Step.{Step}
 
 -- the refusals of each record that may depend on other blocks, and no others
-abbrev pub others : Role → List ℕ
-others Opens = []
-others Block = 13 ∷ []
-others Closes = 14 ∷ []
+abbrev pub othersOf : Role → List ℕ
+othersOf Opens = []
+othersOf Block = 13 ∷ []
+othersOf Closes = 14 ∷ []
 
 -- a refusal by one of them
 pub data ByOthers {A : Type 0} (role : Role) (reply : Reply A) : Type 0 where
-  by : (number place : ℕ) → List·Memᴰ number (others role) → reply ≡ refused number place → ByOthers role reply
+  by : (number place : ℕ) → List·Memᴰ number (othersOf role) → reply ≡ refused number place → ByOthers role reply
 
 -- of two replies to the same bytes one is such a refusal, or they agree
 pub data Agrees {A : Type 0} (role : Role) (x y : Reply A) (same : Type 0) : Type 0 where
@@ -28,6 +28,6 @@ pub record Lengths : Type 0 where
   pub used : ℕ
   pub written : ℕ
 
-abbrev pub lengths : Reply Step → Reply Lengths
-lengths (is step) = is (record { used = step .used; written = step .written })
-lengths (refused number place) = refused number place
+abbrev pub lengthsOf : Reply Step → Reply Lengths
+lengthsOf (is step) = is (record { used = step .used; written = step .written })
+lengthsOf (refused number place) = refused number place

@@ -21,7 +21,7 @@ use Rattle.listing.proofs.Whole.{waits-short}
 use Rattle.daylist.specs.declared.work.Run.the-variants.{InputFailed}
 use Rattle.daylist.specs.declared.work.Work.{Work}
 use Rattle.daylist.specs.Inner.{Places}
-use Rattle.daylist.specs.Works.{isGoing, handOf, stoppedBy, wroteBy, Wrote, readBy, Read, gave, failed, Refilled, more, none, Waited, unread, wrote, stepOf}
+use Rattle.daylist.specs.Works.{isGoing, handOf, stoppedBy, wroteBy, WroteOut, readBy, Read, gave, failed, Refilled, more, none, Waited, unread, wrote, listStep}
 use Rattle.daylist.proofs.Buffers.{hand-read, moved}
 
 -- ---- what a read answered, by its sign
@@ -78,7 +78,7 @@ clash t a b =
     let z : _≡_ {A = ℕ} 0 1 = cc in
     absurd (omega arith)
 
-module _ {w f : Work} {input : List ℕ} (e : Wrote w f) where
+module _ {w f : Work} {input : List ℕ} (e : WroteOut w f) where
   pub not-taken : isGoing (w .run) ≡ true → isGoing (f .run) ≡ false → Waited w input f input
   not-taken g h = go (e .taken) refl
     where
@@ -116,13 +116,13 @@ module _ (w : Work) (input output : List ℕ) {after : List ℕ} {listed : Liste
   room : length (lent w output) ≡ 65536 - w .full
   room = length-take-le (length output - w .full) (behindHeld w output) (omega (arith, length-drop (w .full) output)) ∙ ap (λ (n : ℕ). n - w .full) long
 
-  pub answered : stepOf w input .answer ≡ answerOf listed
+  pub answered : listStep w input .answer ≡ answerOf listed
   answered = sym (o .replied ∙ ap (λ (n : ℕ). listOf (w .listing) (handOf w input) (w .ended) n .answer) room)
 
-  pub laid : take (w .full) output ++ (after ++ drop (length output - w .full) (behindHeld w output)) ≡ laidAt output (w .full) (stepOf w input .lines)
+  pub laid : take (w .full) output ++ (after ++ drop (length output - w .full) (behindHeld w output)) ≡ laidAt output (w .full) (listStep w input .lines)
   unfolding laidAt
   laid =
-      let lines = stepOf w input .lines in
+      let lines = listStep w input .lines in
       let long-enough : length (behindHeld w output) ≤ length output - w .full = omega (arith, length-drop (w .full) output) in
       let whole : lent w output ≡ behindHeld w output = take-all (length output - w .full) (behindHeld w output) long-enough in
       let gone : drop (length output - w .full) (behindHeld w output) ≡ [] = drop-of-length-le (behindHeld w output) long-enough in
@@ -137,7 +137,7 @@ module _ (w : Work) (input output : List ℕ) {after : List ℕ} {listed : Liste
   -- an answer that tells no bytes leaves the buffer as it was
   pub silent : writtenBy (answerOf listed) ≡ 0 → take (w .full) output ++ (after ++ drop (length output - w .full) (behindHeld w output)) ≡ output
   silent e =
-      let none = nothing (stepOf w input .lines) (sym (step-long (w .listing) (handOf w input) (w .ended) (65536 - w .full)) ∙ ap writtenBy answered ∙ e) in
+      let none = nothing (listStep w input .lines) (sym (step-long (w .listing) (handOf w input) (w .ended) (65536 - w .full)) ∙ ap writtenBy answered ∙ e) in
       laid ∙ ap (laidAt output (w .full)) none ∙ sym (laid-none output (w .full))
 
   -- where it waits there is room for more

@@ -20,7 +20,7 @@ use Rattle.listing.proofs.Whole.{list-unique, steps-from, done-silent, waits-sh
 use Rattle.daylist.specs.declared.work.Run.{Run}
 use Rattle.daylist.specs.declared.work.Run.the-variants.{Going, Whole, Refused, InputFailed, OutputFailed}
 use Rattle.daylist.specs.declared.work.Work.{Work}
-use Rattle.daylist.specs.Works.{freshWork, isGoing, handOf, heldOf, advancedBy, stoppedBy, wroteBy, Refilled, more, none, Waited, unread, wrote, stepOf, Turned, lists, stops, ends, writes, reads}
+use Rattle.daylist.specs.Works.{freshWork, isGoing, handOf, heldOf, advancedBy, stoppedBy, wroteBy, Refilled, more, none, Waited, unread, wrote, listStep, TookTurn, lists, stops, ends, writes, reads}
 use Rattle.daylist.specs.Runs.{refillGave, waitGave, turnGave, turnHanded, Turns, begin, turn, Ran, allHanded, isListed}
 use Rattle.daylist.proofs.Buffers.{hand-on, held-on, held-fits}
 use Rattle.daylist.proofs.Filling.{clash}
@@ -82,7 +82,7 @@ module _ (given handed : List ℕ) (w : Work) (input output : List ℕ) (fits : 
 -- ---- turn by turn
 module _ {given handed : List ℕ} {w : Work} {input output : List ℕ} (c : Carries given handed w input output) (g : isGoing (w .run) ≡ true) where
   abbrev step : Outcome
-  step = stepOf w input
+  step = listStep w input
 
   abbrev hand : List ℕ
   hand = handOf w input
@@ -158,7 +158,7 @@ module _ {given handed : List ℕ} {w : Work} {input output : List ℕ} (c : Car
   on-waited {exit = exit} a (unread e) = rw (e, append-nil given) (fails given (handed ++ held) (wroteBy w false) exit output (omega arith) refl refl still-front)
   on-waited a (wrote f) = on-refilled a f
 
-  turned : {r : Work} {inputAfter outputAfter : List ℕ} → (t : Turned w input output r inputAfter outputAfter)
+  turned : {r : Work} {inputAfter outputAfter : List ℕ} → (t : TookTurn w input output r inputAfter outputAfter)
       → Carries (given ++ turnGave t) (handed ++ turnHanded t) r inputAfter outputAfter
   turned (lists part a e i o) = rw (e, i, o, append-nil given, append-nil handed) (on-lists part a)
   turned (stops by place n a e i o) = rw (e, i, o, append-nil given, append-nil handed) (on-stops by place n a)

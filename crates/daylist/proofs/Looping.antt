@@ -7,7 +7,7 @@ use native.Mathlib.Omega.{arith}
 use lib.ListN.{length}
 use Rattle.daylist.specs.declared.work.Work.{Work}
 use Rattle.daylist.specs.Inner.{Places}
-use Rattle.daylist.specs.Works.{freshWork, isGoing, Wrote, Turned}
+use Rattle.daylist.specs.Works.{freshWork, isGoing, WroteOut, TookTurn}
 use Rattle.daylist.specs.Runs.{turnGave, turnHanded, Turns, begin, turn}
 use Rattle.daylist.specs.Saying.{Ended}
 
@@ -26,7 +26,7 @@ starts {input} {output} p q e =
     (record { places = record { order = omega arith; hand = omega arith; lines = omega arith }; inputs = p; outputs = q; goes = refl; given = []; handed = []; turns = begin })
 
 pub goes-on : {input output inputAfter outputAfter : List ℕ} {w r : Work} {going still : Bool} → Loops input output w going → going ≡ true
-    → Turned w input output r inputAfter outputAfter × Places r → length inputAfter ≡ length input → length outputAfter ≡ length output → still ≡ isGoing (r .run)
+    → TookTurn w input output r inputAfter outputAfter × Places r → length inputAfter ≡ length input → length outputAfter ≡ length output → still ≡ isGoing (r .run)
     → Loops inputAfter outputAfter r still
 goes-on l g t p q s =
     record {
@@ -39,7 +39,7 @@ goes-on l g t p q s =
       turns = turn (l .turns) (sym (l .goes) ∙ g) (t .0);
     }
 
-pub ended : {input output : List ℕ} {w last : Work} {going : Bool} → Loops input output w going → Wrote w last → Ended last input
+pub ended : {input output : List ℕ} {w last : Work} {going : Bool} → Loops input output w going → WroteOut w last → Ended last input
 ended {input} {output} {w} {last} l e =
     record {
       ran = record { given = l .given; handed = l .handed; work = w; input = input; output = output; turns = l .turns; last = last; wrote = e; came = refl };

@@ -16,7 +16,7 @@ use Rattle.listing.proofs.Whole.{Refuses, step-refuses}
 use Rattle.daylist.specs.declared.work.Run.{Run}
 use Rattle.daylist.specs.declared.work.Run.the-variants.{Going, Whole, Refused, InputFailed, OutputFailed}
 use Rattle.daylist.specs.declared.work.Work.{Work}
-use Rattle.daylist.specs.Works.{isGoing, handOf, wroteBy, Refilled, more, none, Waited, unread, wrote, Turned, lists, stops, ends, writes, reads}
+use Rattle.daylist.specs.Works.{isGoing, handOf, wroteBy, Refilled, more, none, Waited, unread, wrote, TookTurn, lists, stops, ends, writes, reads}
 use Rattle.daylist.specs.Runs.{Turns, begin, turn}
 use Rattle.daylist.specs.Saying.{Ended, Named}
 use Rattle.daylist.proofs.Filling.{clash}
@@ -63,7 +63,7 @@ module _ {told : Refusal} {place : ℕ} where
   unwaited g (unread e) q = unlike OutputFailed refl (sym (ap (λ (x : Work). x .run) e) ∙ q)
   unwaited g (wrote f) q = unfilled g f q
 
-  turn-refuses : {w r : Work} {input output inputAfter outputAfter : List ℕ} → isGoing (w .run) ≡ true → Turned w input output r inputAfter outputAfter
+  turn-refuses : {w r : Work} {input output inputAfter outputAfter : List ℕ} → isGoing (w .run) ≡ true → TookTurn w input output r inputAfter outputAfter
       → r .run ≡ Refused told place → Refuses (r .listing) (handOf r inputAfter) (numberOf (told .why)) (told .place) place
   turn-refuses {w = w} g (lists part a e i o) q = still (w .run) g (sym (ap (λ (x : Work). x .run) e) ∙ q)
   turn-refuses {w = w} {input = input} g (stops by there n a e i o) q =

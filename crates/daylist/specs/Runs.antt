@@ -6,7 +6,7 @@ use mathlib.Core.List.{List, [], _++_}
 use Rattle.daylist.specs.declared.work.Run.{Run}
 use Rattle.daylist.specs.declared.work.Run.the-variants.{Going, Whole, Refused, InputFailed, OutputFailed}
 use Rattle.daylist.specs.declared.work.Work.{Work}
-use Rattle.daylist.specs.Works.{freshWork, isGoing, heldOf, Wrote, Refilled, more, none, Waited, unread, wrote, Turned, lists, stops, ends, writes, reads}
+use Rattle.daylist.specs.Works.{freshWork, isGoing, heldOf, WroteOut, Refilled, more, none, Waited, unread, wrote, TookTurn, lists, stops, ends, writes, reads}
 
 -- the bytes that a turn's read gave
 abbrev pub refillGave : {w r : Work} {entry exit : List ℕ} → Refilled w entry r exit → List ℕ
@@ -17,7 +17,7 @@ abbrev pub waitGave : {w r : Work} {entry exit : List ℕ} → Waited w entry r 
 waitGave (unread e) = []
 waitGave (wrote f) = refillGave f
 
-abbrev pub turnGave : {w r : Work} {input output inputAfter outputAfter : List ℕ} → Turned w input output r inputAfter outputAfter → List ℕ
+abbrev pub turnGave : {w r : Work} {input output inputAfter outputAfter : List ℕ} → TookTurn w input output r inputAfter outputAfter → List ℕ
 turnGave (lists part a e i o) = []
 turnGave (stops told place n a e i o) = []
 turnGave (ends a e i o) = []
@@ -25,7 +25,7 @@ turnGave (writes a e i o) = []
 turnGave (reads a f o) = waitGave f
 
 -- the bytes that it handed to be written
-abbrev pub turnHanded : {w r : Work} {input output inputAfter outputAfter : List ℕ} → Turned w input output r inputAfter outputAfter → List ℕ
+abbrev pub turnHanded : {w r : Work} {input output inputAfter outputAfter : List ℕ} → TookTurn w input output r inputAfter outputAfter → List ℕ
 turnHanded (lists part a e i o) = []
 turnHanded (stops told place n a e i o) = []
 turnHanded (ends a e i o) = []
@@ -36,7 +36,7 @@ turnHanded {w} {output = output} (reads a f o) = heldOf w output
 pub data Turns : List ℕ → List ℕ → Work → List ℕ → List ℕ → Type 0 where
   begin : {input output : List ℕ} → Turns [] [] freshWork input output
   turn : {given handed : List ℕ} {w r : Work} {input output inputAfter outputAfter : List ℕ} → Turns given handed w input output → isGoing (w .run) ≡ true
-      → (t : Turned w input output r inputAfter outputAfter) → Turns (given ++ turnGave t) (handed ++ turnHanded t) r inputAfter outputAfter
+      → (t : TookTurn w input output r inputAfter outputAfter) → Turns (given ++ turnGave t) (handed ++ turnHanded t) r inputAfter outputAfter
 
 -- a run: turns, and at last the lines that still wait are handed over
 pub record Ran (run : Run) : Type 0 where
@@ -47,7 +47,7 @@ pub record Ran (run : Run) : Type 0 where
   pub output : List ℕ
   pub turns : Turns given handed work input output
   pub last : Work
-  pub wrote : Wrote work last
+  pub wrote : WroteOut work last
   pub came : run ≡ last .run
 
 -- all that it handed over

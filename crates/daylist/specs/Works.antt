@@ -48,7 +48,7 @@ stoppedBy w run n = record { listing = w .listing; from = w .from; end = w .end;
 abbrev pub wroteBy : Work → Bool → Work
 wroteBy w taken = record { listing = w .listing; from = w .from; end = w .end; full = 0; ended = w .ended; run = pick taken (w .run) OutputFailed }
 
-pub record Wrote (w r : Work) : Type 0 where
+pub record WroteOut (w r : Work) : Type 0 where
   pub taken : Bool
   pub left : r ≡ wroteBy w taken
 
@@ -81,15 +81,15 @@ pub data Waited (w : Work) (entry : List ℕ) (r : Work) (exit : List ℕ) : Typ
 
 -- ---- a turn
 -- the list's step, with what is at hand and the room that is left
-abbrev pub stepOf : Work → List ℕ → Outcome
-stepOf w input = listOf (w .listing) (handOf w input) (w .ended) (65536 - w .full)
+abbrev pub listStep : Work → List ℕ → Outcome
+listStep w input = listOf (w .listing) (handOf w input) (w .ended) (65536 - w .full)
 
 -- by the answer of that step, whose lines stand behind those that wait
-pub data Turned (w : Work) (input output : List ℕ) (r : Work) (inputAfter outputAfter : List ℕ) : Type 0 where
-  lists : (part : Part) → stepOf w input .answer ≡ accepts part → r ≡ advancedBy w part → inputAfter ≡ input → outputAfter ≡ laidAt output (w .full) (stepOf w input .lines)
-      → Turned w input output r inputAfter outputAfter
-  stops : (told : Refusal) (place n : ℕ) → stepOf w input .answer ≡ refuses (numberOf (told .why)) (told .place) place n → r ≡ stoppedBy w (Refused told place) n → inputAfter ≡ input
-      → outputAfter ≡ laidAt output (w .full) (stepOf w input .lines) → Turned w input output r inputAfter outputAfter
-  ends : stepOf w input .answer ≡ done → r ≡ stoppedBy w Whole 0 → inputAfter ≡ input → outputAfter ≡ output → Turned w input output r inputAfter outputAfter
-  writes : stepOf w input .answer ≡ full → Wrote w r → inputAfter ≡ input → outputAfter ≡ output → Turned w input output r inputAfter outputAfter
-  reads : stepOf w input .answer ≡ waits → Waited w input r inputAfter → outputAfter ≡ output → Turned w input output r inputAfter outputAfter
+pub data TookTurn (w : Work) (input output : List ℕ) (r : Work) (inputAfter outputAfter : List ℕ) : Type 0 where
+  lists : (part : Part) → listStep w input .answer ≡ accepts part → r ≡ advancedBy w part → inputAfter ≡ input → outputAfter ≡ laidAt output (w .full) (listStep w input .lines)
+      → TookTurn w input output r inputAfter outputAfter
+  stops : (told : Refusal) (place n : ℕ) → listStep w input .answer ≡ refuses (numberOf (told .why)) (told .place) place n → r ≡ stoppedBy w (Refused told place) n → inputAfter ≡ input
+      → outputAfter ≡ laidAt output (w .full) (listStep w input .lines) → TookTurn w input output r inputAfter outputAfter
+  ends : listStep w input .answer ≡ done → r ≡ stoppedBy w Whole 0 → inputAfter ≡ input → outputAfter ≡ output → TookTurn w input output r inputAfter outputAfter
+  writes : listStep w input .answer ≡ full → WroteOut w r → inputAfter ≡ input → outputAfter ≡ output → TookTurn w input output r inputAfter outputAfter
+  reads : listStep w input .answer ≡ waits → Waited w input r inputAfter → outputAfter ≡ output → TookTurn w input output r inputAfter outputAfter

@@ -5,7 +5,7 @@ ghost use lib.ListN.{length};
 ghost use Rattle.terms.specs.Refusals.{numberOf};
 ghost use Rattle.daylist.specs.Inner.{Places};
 ghost use Rattle.daylist.specs.declared.work.Run.the-variants.{Refused};
-ghost use Rattle.daylist.specs.Works.{isGoing, Turned};
+ghost use Rattle.daylist.specs.Works.{isGoing, TookTurn};
 ghost use Rattle.daylist.specs.Saying.{Ended, CameTo};
 
 mod plant;
@@ -28,7 +28,7 @@ use work::waited;
 // One step of the list; where it waits, what it holds is written and more is read.
 fn turn(w: Work, input: &mut [u8], output: &mut [u8]) -> Work
     requires { ⌜ Places w × ((isGoing (w .run) ≡ true) × ((length (now input) ≡ 65536) × (length (now output) ≡ 65536))) ⌝ }
-    ensures { λ r. ⌜ Turned w (now (input .entry)) (now (output .entry)) r (now (input .exit)) (now (output .exit)) × Places r ⌝ }
+    ensures { λ r. ⌜ TookTurn w (now (input .entry)) (now (output .entry)) r (now (input .exit)) (now (output .exit)) × Places r ⌝ }
 {
     let listing = w.listing;
     let from = w.from;

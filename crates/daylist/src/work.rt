@@ -7,7 +7,7 @@ ghost use mathlib.Core.List.{_++_};
 ghost use Rattle.libc.specs.Io.{Moved};
 ghost use Rattle.daylist.specs.Inner.{Places};
 ghost use Rattle.daylist.specs.declared.work.Run.the-variants.{Refused};
-ghost use Rattle.daylist.specs.Works.{freshWork, isGoing, heldOf, advancedBy, stoppedBy, wroteBy, Wrote, readBy, Read, Refilled, Waited};
+ghost use Rattle.daylist.specs.Works.{freshWork, isGoing, heldOf, advancedBy, stoppedBy, wroteBy, WroteOut, readBy, Read, Refilled, Waited};
 use day::value::Day;
 use libc::STDIN_FILENO;
 use libc::STDOUT_FILENO;
@@ -137,7 +137,7 @@ fn held(w: Work, output: &[u8]) -> &[u8]
 // The lines that wait are written.
 pub fn flushed(w: Work, output: &[u8]) -> Work
     requires { ⌜ Places w × (length (now output) ≡ 65536) ⌝ }
-    ensures { λ r. ⌜ Wrote w r × Places r ⌝ }
+    ensures { λ r. ⌜ WroteOut w r × Places r ⌝ }
 {
     let taken = io::write_all(STDOUT_FILENO, held(w, output));
     wrote(w, taken)

@@ -1,7 +1,7 @@
 -- A unit of which only the working margins cross has its interval above its margins or below them: the larger of M- and the lower end above the smaller of M+ and the upper end leaves two of four cases, as each pair is in order.
 use Prim.Native.Nat.{ℕ}
 use mathlib.Core.Path.{_≡_, refl, sym, ap, _∙_}
-use mathlib.Core.Bool.{Bool, true, false, _&&_, false≢true}
+use mathlib.Core.Bool.{Bool, true, false, _&&_, false≢true, and-false}
 use mathlib.Core.List.{List}
 use lib.Dec.{eqb}
 use lib.IntN.{ℤ}
@@ -20,15 +20,11 @@ use Rattle.records.specs.Reading.{madeAfter, marginFault, markFaults, rangeFaul
 use Rattle.records.proofs.Checks.{Only, only-fine, only-check, only-also}
 use Rattle.finding.specs.Plants.{Apart}
 
-neither : (t : Bool) → t && false ≡ false
-neither true = refl
-neither false = refl
-
 no-room : (a b : Bool) (down up lower upper : ℤ) → leZ down up ≡ true → leZ lower upper ≡ true → leZ (pick a lower down) (pick b up upper) ≡ false → leZ lower up && leZ down upper ≡ false
 no-room true true down up lower upper m i e = rw e
 no-room true false down up lower upper m i e = absurd (false≢true (sym e ∙ i))
 no-room false true down up lower upper m i e = absurd (false≢true (sym e ∙ m))
-no-room false false down up lower upper m i e = rw e (neither (leZ lower up))
+no-room false false down up lower upper m i e = rw e (and-false (leZ lower up))
 
 module _ (s : List ℕ) (at floor : ℕ) (day : DayRecord) where
   -- a fault that is refused by 19 says so

@@ -9,7 +9,7 @@ use Rattle.terms.specs.Refusals.{numberOf, whyOf, passed}
 use Rattle.terms.specs.declared.refusal.Fault.{Fault}
 use Rattle.terms.specs.declared.refusal.Checked.{Checked}
 use Rattle.terms.specs.declared.refusal.Checked.the-variants.{Fine, Faulty}
-use Rattle.terms.proofs.Replies.{never}
+use Rattle.terms.proofs.Replies.{never, From, front, after, next-from}
 use Rattle.terms.proofs.Numbers.{isOf, by-each}
 use Rattle.records.specs.declared.day.DayRecord.{DayRecord}
 use Rattle.records.specs.declared.unit.UnitRecord.{UnitRecord}
@@ -17,23 +17,6 @@ use Rattle.records.specs.Layouts.{unitAt}
 use Rattle.records.specs.Reading.{unitHeadOf, unitEnd, placeFrom, faultPlace, unitFaults, unitFieldsOf, unitOf, unitsOf}
 use Rattle.records.proofs.Places.{place-later}
 use Rattle.records.proofs.Numbers.{headNumbers, by-unit-head}
-
--- a refusal came of the reading in front, or of what comes after it
-pub data From {A B : Type 0} (x : Reply A) (rest : A → Reply B) (n p : ℕ) : Type 0 where
-  front : x ≡ refused n p → From x rest n p
-  after : (a : A) → x ≡ is a → rest a ≡ refused n p → From x rest n p
-
-pub next-from : {A B : Type 0} (x : Reply A) (rest : A → Reply B) {n p : ℕ} → next x rest ≡ refused n p → From x rest n p
-unfolding next
-next-from (is a) rest e = after a refl e
-next-from (refused m q) rest {n} {p} e =
-    let z : m ≡ n = cc in
-    let y : q ≡ p = cc in
-    front (rw (z, y))
-
-pub either : {A B P : Type 0} {x : Reply A} {rest : A → Reply B} {n p : ℕ} → From x rest n p → (x ≡ refused n p → P) → ((a : A) → x ≡ is a → rest a ≡ refused n p → P) → P
-either (front h) f g = f h
-either (after a h k) f g = g a h k
 
 -- a refusal of a unit's field: no head has its number
 module _ (n p : ℕ) (other : isOf headNumbers n ≡ true → ⊥) where

@@ -13,6 +13,7 @@ use Rattle.terms.specs.declared.refusal.Fault.{Fault}
 use Rattle.terms.specs.declared.refusal.Fault.the-variants as A
 use Rattle.terms.specs.declared.refusal.Checked.the-variants.{Faulty}
 use Rattle.terms.specs.declared.refusal.Refusal.{Refusal}
+use Rattle.terms.proofs.Replies.{next-from, from-either}
 use Rattle.terms.proofs.Same.{whyBy, why-back, why-same}
 use Rattle.terms.proofs.Numbers.{isOf, allOf, By, value, number, by-each, by-need}
 use Rattle.records.specs.Layouts as L
@@ -40,7 +41,7 @@ use Rattle.finding.specs.declared.named.Subject.the-variants as S
 use Rattle.finding.specs.Spots.{groupWhole, spotFrom, spotOf}
 use Rattle.finding.specs.Naming.{keyIn, numberAtHand, layout, unitValueAt, unitFieldAt, toldOf, leastFinding, mostFinding, lowerMeets, findingOf, namedOf}
 use Rattle.finding.specs.Plants.{ofUnit, faultField, faultHeld, Plant}
-use Rattle.finding.proofs.Failing.{next-from, either, First, first}
+use Rattle.finding.proofs.Failing.{First, first}
 use Rattle.finding.proofs.Apart.{ends-apart}
 
 -- ---- the walk finds the record of the unit of an index
@@ -138,13 +139,13 @@ module _ (day : Day) (s : List ℕ) (n p : ℕ) (own : ofUnit (whyBy n) ≡ true
   fields-first : blockFieldsOf day s ≡ refused n p → units ≡ refused n p
   unfolding blockFieldsOf
   fields-first e =
-      either (next-from (groupFieldsOf s (day .«record») (day .last)) _ e) (λ h. absurd (no groupNumbers refl (by-group s _ _) h))
+      from-either (next-from (groupFieldsOf s (day .«record») (day .last)) _ e) (λ h. absurd (no groupNumbers refl (by-group s _ _) h))
       (λ g h f. unmade s (L.groupAt s 0) _ (not-of afterUnits refl) (rw (group-passed s (day .«record») (day .last) h .value) at f))
 
   block-first : (room : ℕ) → blockTaken day s room ≡ refused n p → units ≡ refused n p
   unfolding blockTaken
   block-first room e =
-      either (next-from (blockFieldsOf day s) _ e) (λ h. fields-first h) (λ b h f. absurd (no (12 ∷ []) refl (by-need _ 12 _ refl (value _)) f))
+      from-either (next-from (blockFieldsOf day s) _ e) (λ h. fields-first h) (λ b h f. absurd (no (12 ∷ []) refl (by-need _ 12 _ refl (value _)) f))
 
   -- the block lies whole in front as far as its group record goes, and its units are refused
   record Reached : Type 0 where
@@ -161,7 +162,7 @@ module _ (day : Day) (s : List ℕ) (n p : ℕ) (own : ofUnit (whyBy n) ≡ true
 
   reached : (room : ℕ) → offerOf day s room ≡ refused n p → Reached
   unfolding offerOf
-  reached room e = either (next-from (headFor day s) _ e) (λ h. absurd (no headNumbers refl (by-head-for day s) h)) (λ head h f. by-role room head h (head .role) refl f)
+  reached room e = from-either (next-from (headFor day s) _ e) (λ h. absurd (no headNumbers refl (by-head-for day s) h)) (λ head h f. by-role room head h (head .role) refl f)
 
 -- ---- the theorem
 module _ (day : Day) (s : List ℕ) (r : Refusal) where

@@ -7,12 +7,12 @@ use native.Mathlib.Omega.{arith}
 use native.Mathlib.Decide.{decLt}
 use borrow.Author.Tests.{eqb-true, leb-true}
 use lib.Dec.{eqb, leb}
-use lib.IntN.{ℤ, pos, negℤ}
+use lib.IntN.{ℤ, pos}
 use lib.ListN.{length, getD, List·getD-eq-default}
 use lib.Signed.{leZ}
 use Rattle.numbers.specs.Range.{Within}
 use Rattle.numbers.specs.Column.{at}
-use Rattle.numbers.proofs.Integers.{zarith, one-side}
+use Rattle.numbers.proofs.Integers.{zarith}
 use Rattle.numbers.proofs.Choices.{and-both}
 use Rattle.numbers.proofs.Sums.{sum64-within}
 use Rattle.terms.specs.Reply.{is}
@@ -21,21 +21,14 @@ use Rattle.terms.specs.Checks.{isFlag, inRange, mostUnits, unitCount, marginChe
 use Rattle.terms.specs.declared.quantity.Margins.{Margins}
 use Rattle.terms.specs.declared.refusal.Checked.the-variants.{Fine}
 use Rattle.terms.specs.declared.refusal.Fault.the-variants as F
-use Rattle.terms.proofs.Replies.{need-is, next-is}
 use Rattle.terms.proofs.Classes.{flag-known}
-use Rattle.terms.proofs.Passing.{passes}
+use Rattle.terms.proofs.Passing.{passes, range-within}
 use Rattle.terms.proofs.Scan.{all-fine}
 use Rattle.group.specs.Group.{Group, units, marginsAt, position, excess, n1}
-use Rattle.group.specs.Columns.{unitCheck, unitChecks, lengths, oneLength, sumsOf, judgeOf}
+use Rattle.group.specs.Columns.{unitCheck, unitChecks, lengths, oneLength}
 use Rattle.group.specs.Accepted.{Level, Sound, Accepted}
 use Rattle.group.specs.Inner.{Judged, Bearable}
-use Rattle.group.specs.declared.judge.Sums.{Sums}
 use Rattle.group.proofs.Judging.{n1-bearable}
-
-range-small : (z : ℤ) → inRange z ≡ true → Within 1000000 z
-range-small z e =
-    let p = and-both (leZ (negℤ (pos 1000000)) z) (leZ z (pos 1000000)) e in
-    omega (zarith, one-side z)
 
 unit-sound : (class : ℕ) (n0 pc : ℤ) (m : Margins) → unitCheck class n0 pc m ≡ Fine → Sound class n0 pc m
 unfolding unitCheck amountChecks marginChecks
@@ -47,10 +40,10 @@ unit-sound class n0 pc m e =
     let f = passes (inRange (m .«step_up»)) F.StepUp _ (d .1) in
     record {
       known = flag-known class (a .0);
-      n0-small = range-small n0 (b .0);
-      pc-small = range-small pc (c .0);
-      down-small = range-small (m .«step_down») (d .0);
-      up-small = range-small (m .«step_up») (f .0);
+      n0-small = range-within n0 (b .0);
+      pc-small = range-within pc (c .0);
+      down-small = range-within (m .«step_down») (d .0);
+      up-small = range-within (m .«step_up») (f .0);
       ordered = passes (leZ (m .«step_down») (m .«step_up»)) F.Crossed Fine (f .1) .0;
     }
 
@@ -137,14 +130,6 @@ module _ (g : Group) (first second third : List ℤ) {n : ℕ} (lengths-one : on
   judged-of =
       let v = even g first second third lengths-one in
       (judged-by g accepted-by (v .firsts), (v .seconds, v .thirds))
-
-pub accepted : (g : Group) (first second third : List ℤ) {sums : Sums} → judgeOf g first second third ≡ is sums → Accepted g
-unfolding judgeOf
-accepted g first second third e =
-    let a = need-is (oneLength g first second third) 15 0 _ e in
-    let b = need-is (unitCount (units g)) 5 0 _ (a .1) in
-    let c = next-is (firstFault (unitChecks g) 0 (units g)) (λ _. is (sumsOf g)) (b .1) in
-    accepted-by g first second third (a .0) (b .0) (c .1 .0)
 
 -- n1 of such a group is a column that can be cut, and bears its excess
 pub bearable-of : (g : Group) → Accepted g → Bearable (excess g) (n1 g) (g .class)

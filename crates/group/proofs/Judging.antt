@@ -74,9 +74,6 @@ module _ {p : ℤ} {n0 stepDown stepUp : List ℤ} {class : List ℕ} {first : L
   pub s1-within : Within 64000000 (sumZ x1)
   s1-within = sum64-within x1 (n1-classed .few) (n1-classed .small)
 
-  pub s2-within : Within 64000000 (sumZ x2)
-  s2-within = sum64-within x2 n2-few n2-small
-
   pub s3-within : Within 64000000 (sumZ x3)
   s3-within = sum64-within x3 n3-few n3-small
 

@@ -6,7 +6,7 @@ use native.Mathlib.Omega.{arith}
 use native.Mathlib.Decide.{decLt}
 use lib.IntN.{ℤ}
 use lib.ListN.{length, getD}
-use Rattle.numbers.specs.Column.{column, at}
+use Rattle.numbers.specs.Column.{at}
 use Rattle.numbers.proofs.Columns.{column-length, column-at, column-past, column-ext}
 use Rattle.terms.proofs.Sizes.{size-within}
 use Rattle.group.specs.Steps.{directionOf, nearerBy}

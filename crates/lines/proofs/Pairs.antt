@@ -9,7 +9,6 @@ use lib.Dec.{ltb}
 use lib.ListN.{length, take, drop, getD, length-append}
 use lib.Seq.{take-at, drop-drop, drop-append-add, length-take-le}
 use Rattle.numbers.specs.Bytes.{laidAt}
-use Rattle.numbers.specs.Column.{column}
 use Rattle.numbers.specs.Sum.{bit}
 use Rattle.numbers.specs.Decimal.{digit, decimal}
 use Rattle.numbers.proofs.Columns.{column-at, column-length}

@@ -1,7 +1,7 @@
 -- The ends of a step, and what was offered: the lines by the room after the call are those by the block's result.
-use Prim.Native.Nat.{ℕ, zero, suc, _+_, _<_}
+use Prim.Native.Nat.{ℕ, _+_, _<_}
 use mathlib.Core.Path.{_≡_, refl, sym, ap, _∙_}
-use mathlib.Core.Bool.{Bool, true, false, not, _&&_}
+use mathlib.Core.Bool.{Bool, true, false, not, _&&_, and-false}
 use mathlib.Core.List.{List, [], append-nil}
 use native.Mathlib.Omega.{arith}
 use borrow.Author.Tests.{ltb-true}
@@ -17,7 +17,7 @@ use Rattle.terms.proofs.Replies.{need-is, next-is}
 use Rattle.records.specs.declared.group_result.GroupResult.{GroupResult}
 use Rattle.records.specs.Layouts.{resultCount, groupResultAt}
 use Rattle.writers.specs.Results.{resultLength}
-use Rattle.writers.specs.Runs.{run}
+use Rattle.writers.proofs.Runs.{run-same}
 use Rattle.walk.specs.declared.table.Role.{Role}
 use Rattle.walk.specs.declared.table.Role.the-variants.{Opens, Block, Closes}
 use Rattle.walk.specs.Table.{roleOf, isBlock}
@@ -61,17 +61,6 @@ module _ (l : Listing) (s : List ℕ) (ended : Bool) (entry : List ℕ) where
     pub offered : (ended && over (l .day) s) ≡ false → listOf l s ended (length entry) ≡ listOffered (l .place) s ended (offerOf (l .day) s longestResult)
     unfolding listOf
     offered c = rw (a, c)
-
--- what was taken does not wait
-goes-on : (ended : Bool) → (not ended && false) ≡ false
-goes-on true = refl
-goes-on false = refl
-
--- runs of the same parts
-run-same : (f g : ℕ → List ℕ) (n : ℕ) → ((i : ℕ) → i < n → f i ≡ g i) → run f n ≡ run g n
-unfolding run
-run-same f g zero h = refl
-run-same f g (suc n) h = rw (run-same f g n (λ i l. h i (omega arith)), h n (omega arith))
 
 -- what was offered is there
 pub present : (day : Day) (s : List ℕ) (room : ℕ) {step : Step} → offerOf day s room ≡ is step → 0 < length s
@@ -121,7 +110,7 @@ module _ (day : Day) (s entry : List ℕ) (long : length entry ≡ longestResult
     unfolding listTaken listReply listOffered
     taken place ended =
         let e : offerOf day s longestResult ≡ is step = rw long at (reply day s entry o) in
-        rw (e, goes-on ended, lines-agree (step .day))
+        rw (e, and-false (not ended), lines-agree (step .day))
 
     pub at-hand : 0 < length s
     at-hand = present day s (length entry) (reply day s entry o)

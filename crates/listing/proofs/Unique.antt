@@ -11,7 +11,7 @@ use Rattle.terms.proofs.Same.{why-same}
 use Rattle.listing.specs.declared.list.Listing.{Listing}
 use Rattle.listing.specs.declared.list.Listed.{Listed}
 use Rattle.listing.specs.declared.list.Listed.the-variants.{Taken, Refused, Waits, Full, Done}
-use Rattle.listing.specs.Listing.{Answer, accepts, refuses, waits, full, done, answerOf, listOf, Lists}
+use Rattle.listing.specs.Listing.{Answer, accepts, refuses, waits, full, done, answerOf, listOf, Lists, SameListed}
 
 -- an answer leads back to what was answered, but for why it is refused, which its number tells
 abbrev whyIn : Listed → Why
@@ -54,11 +54,6 @@ answers-same r q e =
     let w = why-same (whyIn r) (whyIn q) (numbered r ∙ ap numberIn e ∙ sym (numbered q)) in
     sym (back r) ∙ ap (λ (a : Answer). listedBy a (whyIn r)) e ∙ ap (listedBy (answerOf q)) w ∙ back q
 
--- two outcomes of one step
-pub record Same (r q : Listed) (x y : List ℕ) : Type 0 where
-  pub reply : r ≡ q
-  pub room : x ≡ y
-
 pub list-next-unique : (l : Listing) (s : List ℕ) (ended : Bool) (entry : List ℕ) (r q : Listed) {x y : List ℕ}
-    → Lists (listOf l s ended (length entry)) entry r x → Lists (listOf l s ended (length entry)) entry q y → Same r q x y
+    → Lists (listOf l s ended (length entry)) entry r x → Lists (listOf l s ended (length entry)) entry q y → SameListed r q x y
 list-next-unique l s ended entry r q a b = record { reply = answers-same r q (a .replied ∙ sym (b .replied)); room = a .room ∙ sym (b .room) }

@@ -9,6 +9,7 @@ use lib.Dec.{eqb, ltb}
 use lib.ListN.{length, drop, length-append, length-drop, List·getD-append}
 use Rattle.numbers.specs.Bytes.{byteAt}
 use Rattle.numbers.specs.Choice.{pick}
+use Rattle.numbers.proofs.Choices.{and-both}
 use Rattle.terms.specs.Reply.{Reply, is, refused, need, next}
 use Rattle.walk.specs.Table.{roleOf, headIn}
 use Rattle.day.specs.declared.value.Day.{Day}
@@ -36,12 +37,6 @@ data Told (l : Listing) (s : List ℕ) (ended : Bool) : Answer → List ℕ → 
       → place ≡ further (l .place) inside → (not ended && eqb number 1) ≡ false → lines ≡ refusedLine number (further (l .place) inside)
       → Told l s ended (refuses number inside place n) lines
 
-both : (a b : Bool) → (a && b) ≡ true → (a ≡ true) × (b ≡ true)
-both true b e = (refl, e)
-both false b e =
-    let z : _≡_ {A = ℕ} 0 1 = cc in
-    absurd (omega arith)
-
 told : (l : Listing) (s : List ℕ) (ended : Bool) (room : ℕ) {answer : Answer} {lines : List ℕ} → listOf l s ended room ≡ outcome answer lines → Told l s ended answer lines
 unfolding listOf listOffered listReply listTaken listRefused
 told l s ended room {answer} {lines} = go (ltb room longestLines) (ended && over (l .day) s) (offerOf (l .day) s longestResult) refl refl
@@ -60,7 +55,7 @@ told l s ended room {answer} {lines} = go (ltb room longestLines) (ended && over
         → pick a (outcome full []) (pick b (outcome done []) (listOffered (l .place) s ended x)) ≡ outcome answer lines
         → Told l s ended answer lines
     go true b x q r e = rw (← ap (λ (o : Outcome). o .answer) e) room-wanted
-    go false true x q r e = let t = both ended (over (l .day) s) q in rw (← ap (λ (o : Outcome). o .answer) e) (over-by (t .0) (t .1) (sym (ap (λ (o : Outcome). o .lines) e)))
+    go false true x q r e = let t = and-both ended (over (l .day) s) q in rw (← ap (λ (o : Outcome). o .answer) e) (over-by (t .0) (t .1) (sym (ap (λ (o : Outcome). o .lines) e)))
     go false false (is step) q r e = accept step (not ended && false) refl q r e
     go false false (refused number inside) q r e = refuse number inside (not ended && eqb number 1) refl q r e
 

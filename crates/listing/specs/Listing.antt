@@ -93,3 +93,8 @@ listOf l s ended room =
 pub record Lists (right : Outcome) (entry : List ℕ) (r : Listed) (exit : List ℕ) : Type 0 where
   pub replied : answerOf r ≡ right .answer
   pub room : exit ≡ laidAt entry 0 (right .lines)
+
+-- two outcomes of one step
+pub record SameListed (r q : Listed) (x y : List ℕ) : Type 0 where
+  pub reply : r ≡ q
+  pub room : x ≡ y

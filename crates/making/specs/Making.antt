@@ -84,15 +84,15 @@ wholeMade Nothing bytes = Whole Between bytes
 wholeMade (Fault number line spot) bytes = Refused number line spot
 
 -- a unit lies where the one before ends, and its number is above that of the one before
-unfoldable pub unitMade : Block → UnitRecord → Found → Made
-unitMade b u found =
+unfoldable pub madeByUnit : Block → UnitRecord → Found → Made
+madeByUnit b u found =
     pick (leb (b .left) 1) (wholeMade found (b .here + lengthOf u))
     (On (Within (record { left = b .left - 1; here = b .here + lengthOf u; floor = u .number + 1; found = found })))
 
 unfoldable pub unitTurn : Block → UnitRecord → ℕ → List ℕ → Turn
 unitTurn b u line room =
     pick (leb (b .here + lengthOf u) (length room))
-    (turn (unitMade b u (foundOf (b .found) (valueFaults u (b .floor)) u line)) (laidAt room (b .here) (unitBytes u)))
+    (turn (madeByUnit b u (foundOf (b .found) (valueFaults u (b .floor)) u line)) (laidAt room (b .here) (unitBytes u)))
     (turn (Refused 12 line Nowhere) room)
 
 -- where no unit is due none may come

@@ -1,7 +1,7 @@
--- What holds of both arms of a choice holds of the choice; what a test that holds in two parts says of each.
+-- What holds of both arms of a choice holds of the choice; what a test in two parts that holds says of them.
 use Prim.Native.Nat.{ℕ, _≤_}
 use mathlib.Core.Path.{_≡_, refl}
-use mathlib.Core.Bool.{Bool, true, false, _&&_}
+use mathlib.Core.Bool.{Bool, true, false, _&&_, _||_}
 use native.Mathlib.Omega.{arith}
 use Rattle.numbers.specs.Choice.{pick}
 
@@ -16,3 +16,7 @@ pick-le false n = omega arith
 pub and-both : (a b : Bool) → a && b ≡ true → (a ≡ true) × (b ≡ true)
 and-both true b e = (refl, e)
 and-both false b e = (e, cc)
+
+pub or-either : {P : Type 0} (a b : Bool) → a || b ≡ true → (a ≡ true → P) → (b ≡ true → P) → P
+or-either true b e f g = f refl
+or-either false b e f g = g e

@@ -8,7 +8,7 @@ use native.Mathlib.Numerals.{add-one}
 use native.Mathlib.Omega.{arith}
 use lib.IntN.{ℤ, pos}
 use lib.ListN.{length, getD, set, drop, length-append, List·getD-append, List·getD-eq-default}
-use lib.Seq.{drop-cons, drop-length, set-at, getD-at, getD-set-same, getD-set-other, ext-getD}
+use lib.Seq.{drop-cons, drop-length, set-at, getD-at, ext-getD}
 use Rattle.numbers.specs.Range.{Within}
 use Rattle.numbers.specs.Column.{column, at, AllWithin}
 use Rattle.numbers.proofs.Integers.{zarith}
@@ -52,17 +52,6 @@ module _ {X : Type 0} (f : ℕ → X) where
   pub is-column : (d : X) (n : ℕ) (l : List X) → length l ≡ n → ((i : ℕ) → i < n → getD l i d ≡ f i) → l ≡ column n f
   is-column d n l e h =
       ext-getD d l (column n f) (e ∙ sym (column-length n)) (λ i m. h i (omega arith) ∙ sym (column-at n i d (omega arith)))
-
-  -- a store at i of f i, on a list that agrees with f below i
-  pub set-more : (d : X) (l : List X) (i : ℕ) (v : X) → i < length l → v ≡ f i → ((j : ℕ) → j < i → getD l j d ≡ f j)
-      → (j : ℕ) → j < i + 1 → getD (set l i v) j d ≡ f j
-  set-more d l i v il e h j jl = go (decLt j i)
-    where
-      go : Dec (j < i) → getD (set l i v) j d ≡ f j
-      go (yes m) = getD-set-other l i j v d (omega arith) ∙ h j m
-      go (no m) =
-          let q : j ≡ i = omega arith in
-          ap (λ (k : ℕ). getD (set l i v) k d) q ∙ getD-set-same l i v d il ∙ e ∙ ap f (sym q)
 
 -- a list is the column of its entries
 pub column-self : {X : Type 0} (d : X) (l : List X) → l ≡ column (length l) (λ i. getD l i d)

@@ -90,9 +90,6 @@ more-figures n l h = more-digits 19 n l ∙ ap (λ (x : List ℕ). x ++ (digit (
 pub one-digit : (n : ℕ) → n < 10 → length (decimal n) ≡ 1
 one-digit n h = ap length (one-figure n h)
 
-pub one-longer : (n : ℕ) → 10 ≤ n → n < 10 ^ 20 → length (decimal n) ≡ length (decimal (n / 10)) + 1
-one-longer n l h = ap length (more-figures n l h) ∙ length-append (decimal (n / 10)) (digit (n % 10) ∷ [])
-
 pub so-many : (k more n : ℕ) → k + more ≡ 18 → 10 ^ suc k ≤ n → n < 10 ^ suc (suc k) → length (decimal n) ≡ suc (suc k)
 unfolding decimal
 so-many k more n e l h = rw e at (exactly k more n l h)

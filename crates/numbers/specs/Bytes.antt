@@ -1,6 +1,5 @@
 -- Numbers in bytes: the most significant byte first, signed ones in two's complement.
 use Prim.Native.Nat.{ℕ, _+_, _*_, _/_, _%_, _<_}
-use mathlib.Core.Path.{_≡_}
 use mathlib.Core.List.{List, [], _∷_, _++_}
 use lib.IntN.{ℤ}
 use lib.ListN.{getD, take, drop, length}

@@ -4,7 +4,7 @@ ghost use mathlib.Core.List.{[], _∷_};
 ghost use Prim.Native.Nat.{_+_, _≤_, _<_};
 ghost use lib.ListN.{length};
 ghost use Rattle.numbers.specs.Bytes.{byteAt, be16, be32, bytes16, bytes32, signed32, bits32, laidAt};
-ghost use Rattle.numbers.specs.Inner.{Field};
+ghost use Rattle.numbers.specs.Inner.{Bounded};
 use crate::signed::from_bits;
 use crate::signed::to_bits;
 
@@ -18,7 +18,7 @@ pub fn byte(s: &[u8], at: usize) -> u8
 // A byte, widened so that its callers know it is below 256.
 fn byte_at(s: &[u8], at: usize) -> u32
     requires { ⌜ at < length (now s) ⌝ }
-    ensures { λ r. ⌜ Field (byteAt (now (s .entry)) at) 256 r ⌝ }
+    ensures { λ r. ⌜ Bounded (byteAt (now (s .entry)) at) 256 r ⌝ }
 {
     s[at] as u32
 }

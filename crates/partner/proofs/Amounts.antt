@@ -1,7 +1,7 @@
 -- An amount by its whole MWh and its decimals: what was kept at the cap stands for what was read.
 use Prim.Native.Nat.{ℕ, _+_, _*_, _/_, _%_, _≤_, _<_}
-use mathlib.Core.Path.{_≡_, refl, sym, ap, _∙_}
-use mathlib.Core.Bool.{true, _&&_}
+use mathlib.Core.Path.{_≡_, refl, sym, ap}
+use mathlib.Core.Bool.{_&&_}
 use mathlib.Core.List.{List}
 use native.Mathlib.Omega.{arith}
 use borrow.Author.Tests.{eqb-true}
@@ -14,7 +14,7 @@ use Rattle.terms.specs.Reply.{Reply, is, refused, need, next}
 use Rattle.terms.proofs.Replies.{never, need-is, next-is}
 use Rattle.partner.specs.declared.fields.Held.{Held}
 use Rattle.partner.specs.Form.{held, digitsFrom, isNumeral, numeralOf, threeAt, hasDecimals, amountOf}
-use Rattle.partner.specs.Inner.{least, mwhCap, capped, leastKwh, cappedAmount, mapped, decimalsOr}
+use Rattle.partner.specs.Inner.{least, mwhCap, capped, cappedAmount, mapped, decimalsOr}
 use Rattle.partner.proofs.Ends.{some-byte}
 use Rattle.partner.proofs.Decimals.{told-wrong, told-right, decimals-there}
 

@@ -1,8 +1,8 @@
 -- Three decimals and the semicolon that ends them, byte by byte: the first that is wrong ends the reading.
 use Prim.Native.Nat.{ℕ, _+_, _*_, _-_, _≤_, _<_}
 use mathlib.Core.Path.{_≡_, refl}
-use mathlib.Core.Bool.{Bool, true, false, _&&_}
-use mathlib.Core.List.{List, [], _∷_}
+use mathlib.Core.Bool.{Bool, true, false, _&&_, and-false}
+use mathlib.Core.List.{List}
 use native.Mathlib.Omega.{arith}
 use borrow.Author.Tests.{eq-eqb, ne-eqb, eqb-true}
 use lib.Dec.{eqb}
@@ -15,10 +15,6 @@ use Rattle.numbers.proofs.ReadBack.{digit-bounds}
 use Rattle.partner.specs.Form.{threeAt, hasDecimals}
 use Rattle.partner.specs.Inner.{decimalsOr}
 use Rattle.partner.proofs.Ends.{some-byte}
-
-pub and-false : (t : Bool) → t && false ≡ false
-and-false true = refl
-and-false false = refl
 
 module _ (s : List ℕ) (at : ℕ) where
   unended : (eqb (byteAt s (at + 3)) 59 ≡ false) → decimalsOr s at ≡ 1000

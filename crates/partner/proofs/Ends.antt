@@ -1,8 +1,8 @@
 -- Where a numeral ends: a 0 in front stands alone, and after any other digit all that follow belong to it.
-use Prim.Native.Nat.{ℕ, suc, _+_, _*_, _-_, _≤_, _<_}
+use Prim.Native.Nat.{ℕ, suc, _+_, _-_, _≤_, _<_}
 use mathlib.Core.Path.{_≡_, refl, sym, ap, _∙_}
 use mathlib.Core.Bool.{Bool, true, false, _||_}
-use mathlib.Core.List.{List, [], _∷_}
+use mathlib.Core.List.{List, _∷_}
 use native.Mathlib.Omega.{arith}
 use native.Mathlib.Decide.{decLt}
 use borrow.Author.Tests.{lt-ltb, ne-eqb}
@@ -14,7 +14,7 @@ use Rattle.numbers.specs.Decimal.{isDigit, numberFrom}
 use Rattle.numbers.proofs.ReadBack.{digit-bounds}
 use Rattle.terms.specs.Reply.{is, refused, need}
 use Rattle.partner.specs.declared.fields.Held.{Held}
-use Rattle.partner.specs.Form.{held, digitsFrom, isNumeral, numeralBy, numeralOf}
+use Rattle.partner.specs.Form.{held, digitsFrom, isNumeral, numeralOf}
 use Rattle.partner.specs.Inner.{least, capped, mapped, Digits, Ended}
 use Rattle.partner.proofs.Capped.{least-is, digits-on, digits-out}
 

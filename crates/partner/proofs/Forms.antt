@@ -1,21 +1,16 @@
 -- The eight fields with their numbers kept at the caps: each field is read from the place that the one before it gives, which no cap changes.
-use Prim.Native.Nat.{ℕ, _+_, _≤_, _<_}
-use mathlib.Core.Path.{_≡_, refl, sym, ap, _∙_}
-use mathlib.Core.Bool.{Bool, true, false, _&&_}
+use Prim.Native.Nat.{ℕ, _≤_, _<_}
+use mathlib.Core.Path.{_≡_, refl, _∙_}
 use mathlib.Core.List.{List}
 use native.Mathlib.Omega.{arith}
 use native.Mathlib.Decide.{decLt}
-use borrow.Author.Tests.{leb-true, le-leb, lt-leb}
-use lib.Dec.{leb}
+use borrow.Author.Tests.{le-leb, lt-leb}
 use Rattle.terms.specs.Reply.{Reply, is, refused, need, next}
-use Rattle.terms.proofs.Replies.{need-is, next-is}
 use Rattle.partner.specs.declared.fields.Held.{Held}
-use Rattle.partner.specs.declared.fields.Quantity.{Quantity}
-use Rattle.partner.specs.declared.form.Form.{Form}
 use Rattle.partner.specs.Form.{numeralOf, quantityOf, unitNumberOf, formOf}
-use Rattle.partner.specs.Inner.{least, numberCap, quarterCap, capped, cappedKwh, cappedForm, mapped}
+use Rattle.partner.specs.Inner.{numberCap, quarterCap, capped, cappedKwh, cappedForm, mapped}
 use Rattle.partner.proofs.Capped.{least-is, least-cap}
-use Rattle.partner.proofs.Amounts.{Whole, mapped-is}
+use Rattle.partner.proofs.Amounts.{Whole}
 
 -- ---- a reading of one thing after another
 mapped-next : {A B C : Type 0} (g : B → C) (x : Reply A) (r : A → Reply B) → mapped g (next x r) ≡ next x (λ a. mapped g (r a))

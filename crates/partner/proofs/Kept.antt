@@ -1,21 +1,19 @@
 -- No limit is told by a cap: a number that lies within its limits was not changed, and one that lies beyond still does.
-use Prim.Native.Nat.{ℕ, zero, suc, _+_, _*_, _/_, _%_, _≤_, _<_}
-use mathlib.Core.Path.{_≡_, refl, sym, ap, _∙_}
-use mathlib.Core.Bool.{Bool, true, false, _&&_}
+use Prim.Native.Nat.{ℕ, zero, suc, _+_, _/_, _≤_, _<_}
+use mathlib.Core.Path.{_≡_, refl, sym, _∙_}
+use mathlib.Core.Bool.{Bool, true, false}
 use native.Mathlib.Decide.{decLt}
 use native.Mathlib.Numerals.{add-one}
 use native.Mathlib.Omega.{arith}
-use borrow.Author.Tests.{lt-ltb, le-ltb, ltb-true}
+use borrow.Author.Tests.{le-ltb, ltb-true}
 use lib.Dec.{ltb}
 use lib.IntN.{ℤ, pos, negsuc, negℤ, natAbs}
 use lib.Signed.{leZ}
 use Rattle.numbers.proofs.Integers.{zarith}
 use Rattle.terms.specs.Checks.{inRange}
-use Rattle.terms.specs.Reply.{Reply, is, need}
-use Rattle.terms.proofs.Replies.{need-is}
+use Rattle.terms.specs.Reply.{Reply, need}
 use Rattle.partner.specs.declared.form.Form.{Form}
 use Rattle.partner.specs.declared.limits.Places.{Places}
-use Rattle.partner.specs.declared.line.Line.{Line}
 use Rattle.partner.specs.Line.{within, lineIn}
 use Rattle.partner.specs.Inner.{least, mwhCap, quarterCap, leastKwh, leastZ, cappedForm}
 use Rattle.partner.proofs.RoundTrip.{Limited}

@@ -1,26 +1,23 @@
 -- A letter and the byte that ends its field, and with it the sign of the amount before: zero stays zero at the cap, so the letter is judged alike.
-use Prim.Native.Nat.{ℕ, zero, suc, _+_, _*_, _/_, _%_, _≤_, _<_}
+use Prim.Native.Nat.{ℕ, zero, suc, _+_, _/_, _≤_, _<_}
 use mathlib.Core.Path.{_≡_, refl, sym, ap, _∙_}
-use mathlib.Core.Bool.{Bool, true, false, _&&_, _||_}
+use mathlib.Core.Bool.{Bool, true, false, _&&_, and-false}
 use mathlib.Core.List.{List}
 use native.Mathlib.Decide.{decLt}
 use native.Mathlib.Numerals.{add-one}
 use native.Mathlib.Omega.{arith}
-use borrow.Author.Tests.{eq-eqb, ne-eqb, lt-ltb, le-ltb, eqb-true}
+use borrow.Author.Tests.{eq-eqb, ne-eqb, lt-ltb}
 use lib.Dec.{eqb, ltb}
-use lib.IntN.{pos, negsuc, negℤ}
+use lib.IntN.{pos, negℤ}
 use lib.ListN.{length, List·getD-eq-default}
 use Rattle.numbers.specs.Bytes.{byteAt}
 use Rattle.numbers.specs.Choice.{pick}
-use Rattle.numbers.proofs.Choices.{and-both}
 use Rattle.terms.specs.Reply.{is, refused, need, next}
 use Rattle.partner.specs.declared.fields.Held.{Held}
 use Rattle.partner.specs.declared.fields.Letter.{Letter}
 use Rattle.partner.specs.declared.fields.Letter.the-variants as L
-use Rattle.partner.specs.Form.{quantity, amountOf, isLetter, signedBy, quantityOf}
-use Rattle.partner.specs.Inner.{least, mwhCap, leastKwh, leastZ, cappedAmount, cappedKwh, mapped, letterAt, quantityBy}
-use Rattle.partner.proofs.Ends.{some-byte}
-use Rattle.partner.proofs.Decimals.{and-false}
+use Rattle.partner.specs.Form.{quantity, amountOf, isLetter, quantityOf}
+use Rattle.partner.specs.Inner.{mwhCap, leastKwh, leastZ, cappedAmount, cappedKwh, mapped, letterAt, quantityBy}
 use Rattle.partner.proofs.Capped.{least-is, least-cap, least-most}
 use Rattle.partner.proofs.Amounts.{mapped-is, amount-there}
 

@@ -13,7 +13,7 @@ use Rattle.terms.specs.Reply.{is, refused, need, next}
 use Rattle.terms.specs.Refusals.{answer}
 use Rattle.terms.specs.Checks.{inRange}
 use Rattle.terms.specs.declared.refusal.Answer.{Answer}
-use Rattle.records.proofs.Accepted.{range-within}
+use Rattle.terms.proofs.Passing.{range-within}
 use Rattle.writers.specs.Writing.{roomFor}
 use Rattle.writers.proofs.Back.{front}
 use Rattle.partner.specs.declared.form.Form.{Form}
@@ -22,7 +22,7 @@ use Rattle.partner.specs.declared.line.LineRead.{LineRead}
 use Rattle.partner.specs.Form.{formOf}
 use Rattle.partner.specs.Line.{within, readOf, quantityBytes, lineOf, atZero, writeOf, LineWritten}
 use Rattle.partner.proofs.Lays.{amount-long}
-use Rattle.partner.proofs.RoundTrip.{Limited, limits-passed, line-reads, accepted-reads, was-read, read-writes}
+use Rattle.partner.proofs.RoundTrip.{Limited, limits-passed, line-reads, line-accepted-back, was-read, line-bytes-again}
 
 -- ---- a line that was read
 module _ (s : List ℕ) (l : LineRead) (e : readOf s ≡ is l) where
@@ -30,20 +30,20 @@ module _ (s : List ℕ) (l : LineRead) (e : readOf s ≡ is l) where
   used-length = omega (arith, was-read s l e .spelled .ends)
 
   -- bytes behind it are not read
-  pub unread : (more : List ℕ) → readOf (take (l .used) s ++ more) ≡ is l
-  unread more =
+  pub rest-unread : (more : List ℕ) → readOf (take (l .used) s ++ more) ≡ is l
+  rest-unread more =
       let r = was-read s l e in
-      rw (read-writes s l e) (line-reads (l .line) more (r .number) (r .limits) ∙ rw (← used-length))
+      rw (line-bytes-again s l e) (line-reads (l .line) more (r .number) (r .limits) ∙ rw (← used-length))
 
-pub one-spelling : (s t : List ℕ) (l m : LineRead) → readOf s ≡ is l → readOf t ≡ is m → l .line ≡ m .line → take (l .used) s ≡ take (m .used) t
-one-spelling s t l m e f v = read-writes s l e ∙ ap lineOf v ∙ sym (read-writes t m f)
+pub line-spelled-once : (s t : List ℕ) (l m : LineRead) → readOf s ≡ is l → readOf t ≡ is m → l .line ≡ m .line → take (l .used) s ≡ take (m .used) t
+line-spelled-once s t l m e f v = line-bytes-again s l e ∙ ap lineOf v ∙ sym (line-bytes-again t m f)
 
 -- ---- "What our writers make reads back as the values given; what is accepted, written again, gives the same bytes."
 pub line-back : (l : Line) {entry exit : List ℕ} {r : Answer} {n : ℕ} → l .number ≤ 65535 → answer r ≡ is n → LineWritten l entry r exit
     → readOf exit ≡ is (record { line = l; used = n })
 line-back l {entry} {n = n} small done w =
     let f = front (lineOf l) entry w done in
-    rw (f .1) (accepted-reads l (drop n entry) (length entry) small (f .0))
+    rw (f .1) (line-accepted-back l (drop n entry) (length entry) small (f .0))
 
 pub line-again : (s : List ℕ) (l : LineRead) → readOf s ≡ is l → (lent : List ℕ) {left : List ℕ} {r : Answer} → l .used ≤ length lent → LineWritten (l .line) lent r left
     → (answer r ≡ is (l .used)) × (take (l .used) left ≡ take (l .used) s)
@@ -54,7 +54,7 @@ line-again s l e lent fits w =
     rw (limits-passed (l .line) atZero (roomFor (length (lineOf (l .line))) (length lent)) (was-read s l e .limits), ← n, le-leb (l .used) (length lent) fits) in
     let done = w .replied ∙ taken in
     let f = front (lineOf (l .line)) lent w done in
-    (done, rw (f .1) (take-at (lineOf (l .line)) (drop (l .used) lent) (l .used) (sym n)) ∙ sym (read-writes s l e))
+    (done, rw (f .1) (take-at (lineOf (l .line)) (drop (l .used) lent) (l .used) (sym n)) ∙ sym (line-bytes-again s l e))
 
 -- ---- how long a line is
 amount-lengths : (z : ℤ) (stop : ℕ) → inRange z ≡ true → (8 ≤ length (quantityBytes z stop)) × (length (quantityBytes z stop) ≤ 11)
@@ -79,17 +79,17 @@ line-lengths l p h =
     let u = amount-lengths (l .margins .«step_up») 10 (p .up) in
     simp length-append (omega arith, omega arith)
 
-pub lengths : (s : List ℕ) (l : LineRead) → readOf s ≡ is l → (28 ≤ l .used) × (l .used ≤ 42)
-lengths s l e =
+pub used-bounds : (s : List ℕ) (l : LineRead) → readOf s ≡ is l → (28 ≤ l .used) × (l .used ≤ 42)
+used-bounds s l e =
     let r = was-read s l e in
     rw (used-length s l e) (line-lengths (l .line) (r .limits) (r .number))
 
 -- ---- "A well-formed amount or quarter past its limit, however long, is too large, not malformed."
 module _ (s : List ℕ) (f : Form) (e : formOf s ≡ is f) where
   -- a quarter: 4 at its start
-  pub too-large : 100 ≤ f .quarter .value → readOf s ≡ refused 4 (f .number .next)
+  pub quarter-too-large : 100 ≤ f .quarter .value → readOf s ≡ refused 4 (f .number .next)
   unfolding readOf within next need
-  too-large h = rw (e, le-ltb (f .quarter .value) 100 h)
+  quarter-too-large h = rw (e, le-ltb (f .quarter .value) 100 h)
 
   -- an amount: 8 at its own start, the first of them
   module _ (q : f .quarter .value < 100) where

@@ -12,7 +12,7 @@ use lib.Signed.{leZ}
 use Rattle.terms.specs.Reply.{Reply, is, need, next}
 use Rattle.terms.specs.Checks.{inRange}
 use Rattle.terms.proofs.Replies.{need-is, next-is}
-use Rattle.records.proofs.Accepted.{range-within}
+use Rattle.terms.proofs.Passing.{range-within}
 use Rattle.writers.specs.Writing.{roomFor}
 use Rattle.partner.specs.declared.fields.Held.{Held}
 use Rattle.partner.specs.declared.form.Form.{Form}
@@ -134,15 +134,15 @@ module _ (l : Line) (more : List ℕ) (number : l .number ≤ 65535) (p : Limite
   unfolding readOf next
   line-reads = rw form-reads (limits-passed l (startsOf l) _ p)
 
-pub written-reads : (l : Line) (more : List ℕ) → l .number ≤ 65535 → within {A = ℕ} l atZero (is 0) ≡ is 0
+pub line-bytes-back : (l : Line) (more : List ℕ) → l .number ≤ 65535 → within {A = ℕ} l atZero (is 0) ≡ is 0
     → readOf (lineOf l ++ more) ≡ is (record { line = l; used = length (lineOf l) })
-written-reads l more h e = line-reads l more h (limited l atZero (is 0) e .0)
+line-bytes-back l more h e = line-reads l more h (limited l atZero (is 0) e .0)
 
 -- what the writer accepts
-pub accepted-reads : (l : Line) (more : List ℕ) (room : ℕ) {n : ℕ} → l .number ≤ 65535 → writeOf l room ≡ is n
+pub line-accepted-back : (l : Line) (more : List ℕ) (room : ℕ) {n : ℕ} → l .number ≤ 65535 → writeOf l room ≡ is n
     → readOf (lineOf l ++ more) ≡ is (record { line = l; used = n })
 unfolding writeOf roomFor
-accepted-reads l more room {n} h e =
+line-accepted-back l more room {n} h e =
     let p = limited l atZero _ e in
     let q = need-is _ _ _ _ (p .1) in
     let v : length (lineOf l) ≡ n = cc in
@@ -179,7 +179,7 @@ module _ (s : List ℕ) where
       let v : record { line = lineIn f; used = f .«step_up» .next } ≡ l = cc in
       rw (← v) (record { number = r .small; limits = p .0; spelled = form-writes f r (p .0) })
 
-pub read-writes : (s : List ℕ) (l : LineRead) → readOf s ≡ is l → take (l .used) s ≡ lineOf (l .line)
-read-writes s l e =
+pub line-bytes-again : (s : List ℕ) (l : LineRead) → readOf s ≡ is l → take (l .used) s ≡ lineOf (l .line)
+line-bytes-again s l e =
     let p = was-read s l e .spelled in
     rw (p .so) (take-at (lineOf (l .line)) _ (l .used) (omega (arith, p .ends)))

@@ -1,8 +1,7 @@
 // The fields of a line, laid one behind another.
 ghost use mathlib.Core.Path.{_≡_};
-ghost use mathlib.Core.List.{[], _∷_, _++_};
+ghost use mathlib.Core.List.{[], _∷_};
 ghost use Prim.Native.Nat.{_+_, _≤_, _<_};
-ghost use lib.IntN.{natAbs};
 ghost use lib.ListN.{length};
 ghost use Rattle.numbers.specs.Bytes.{laidAt};
 ghost use Rattle.partner.specs.Line.{numeral, three, letter, quantityBytes, lineOf};

@@ -39,7 +39,8 @@ use Rattle.day.specs.declared.offer.Step.{Step}
 use Rattle.day.specs.declared.offer.Offered.the-variants.{Taken, Refused}
 use Rattle.day.specs.Days.{fresh, opened}
 use Rattle.day.specs.Offers.{Offers}
-use Rattle.day.proofs.Demands.{One, offer-answered, refusal-keeps, block-accepted, group-told, unit-told, block-fair, block-inside}
+use Rattle.day.specs.Answered.{One}
+use Rattle.day.proofs.Demands.{offer-answered, refusal-keeps, block-accepted, group-told, unit-told, block-fair, block-inside}
 use Rattle.day.proofs.Again.{day-same, block-same, end-same}
 use Rattle.desk.specs.Desk.{Checks}
 use Rattle.desk.specs.Header.{Replied, CallTaken}

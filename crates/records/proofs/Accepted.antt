@@ -12,30 +12,22 @@ use lib.Signed.{leZ}
 use borrow.Author.Tests.{leb-true}
 use Rattle.numbers.specs.Range.{Within}
 use Rattle.numbers.specs.Choice.{pick, eqZ}
-use Rattle.numbers.proofs.Integers.{zarith, neg, one-side, by-test}
+use Rattle.numbers.proofs.Integers.{zarith, neg, by-test}
 use Rattle.terms.specs.Reply.{is}
 use Rattle.terms.specs.Quantities.{knownClass, takesSold, consideredOf}
-use Rattle.terms.specs.Checks.{inRange}
 use Rattle.terms.specs.declared.refusal.Checked.the-variants.{Fine}
 use Rattle.terms.proofs.Replies.{next-is}
-use Rattle.terms.proofs.Passing.{passes}
+use Rattle.terms.proofs.Passing.{passes, range-within}
+use Rattle.terms.proofs.Scan.{passed-is}
 use Rattle.records.specs.declared.day.DayRecord.{DayRecord}
 use Rattle.records.specs.declared.unit.UnitRecord.{UnitRecord}
 use Rattle.records.specs.Layouts.{groupLength, smallerOf, largerOf, intervalKind, isUnit, unitAt, marginsOf}
 use Rattle.records.specs.Reading.{unitEnd, placeFrom, unitPlace, unitIn, unitFieldsOf, unitOf, unitsOf, unitFaults, valueFaults, markFaults, rangeFaults, endsFit, orderFaults, quantityFaults}
 use Rattle.records.specs.Decoding.{unitN0}
 use Rattle.records.specs.Inner.{isWhole}
-use Rattle.records.proofs.Checks.{both, also-fine, passed-is}
-use Rattle.records.proofs.Places.{place-later, place-up}
+use Rattle.records.proofs.Checks.{also-fine}
+use Rattle.records.proofs.Places.{place-later}
 use Rattle.records.proofs.UnitHeads.{unit-lies, unit-long}
-
--- a quantity in its range
-pub range-within : (z : ℤ) → inRange z ≡ true → Within 1000000 z
-range-within z e =
-    let b = both (leZ (negℤ (pos 1000000)) z) (leZ z (pos 1000000)) e in
-    let low = b .0 in
-    let high = b .1 in
-    omega (zarith, one-side z)
 
 -- the considered nomination is N, -PC or 0
 pub n0-within : (class nominated coincide : ℕ) (n pc : ℤ) → Within 1000000 n → Within 1000000 pc → Within 1000000 (consideredOf class nominated coincide n pc)
@@ -170,7 +162,3 @@ module _ (s : List ℕ) (day : DayRecord) (count : ℕ) {end : ℕ} (long : grou
   -- each unit lies whole in the block, by its own kind
   pub unit-there : (i : ℕ) → i < count → isWhole s (unitPlace s i) ≡ true
   unit-there = all .there
-
-  pub unit-whole : (i : ℕ) → i < count → unitEnd s (unitPlace s i) ≤ length s
-  unfolding placeFrom
-  unit-whole i l = omega (arith, all .within, all .ends, place-up s groupLength (suc i) count l)

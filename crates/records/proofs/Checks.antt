@@ -1,14 +1,12 @@
 -- What one check of a unit says of all of them, and all of them of each: by cases on its test.
 use Prim.Native.Nat.{ℕ}
 use mathlib.Core.Path.{_≡_, refl}
-use mathlib.Core.Bool.{Bool, true, false, _&&_, false≢true}
+use mathlib.Core.Bool.{Bool, true, false}
 use native.Mathlib.Omega.{arith}
-use Rattle.terms.specs.Reply.{Reply, is}
-use Rattle.terms.specs.Refusals.{check, passed}
+use Rattle.terms.specs.Refusals.{check}
 use Rattle.terms.specs.declared.refusal.Fault.{Fault}
 use Rattle.terms.specs.declared.refusal.Checked.{Checked}
 use Rattle.terms.specs.declared.refusal.Checked.the-variants.{Fine, Faulty}
-use Rattle.terms.proofs.Replies.{never}
 use Rattle.records.specs.Reading.{also}
 
 module _ (t : Bool) (fault : Fault) (rest : Checked) where
@@ -22,11 +20,6 @@ module _ (t : Bool) (fault : Fault) (rest : Checked) where
   unfolding check
   check-out h = rw h
 
--- both of two tests passed
-pub both : (a b : Bool) → (a && b) ≡ true → (a ≡ true) × (b ≡ true)
-both true b e = (refl, e)
-both false b e = absurd (false≢true e)
-
 -- both of two runs of checks passed
 pub also-fine : (first rest : Checked) → also first rest ≡ Fine → (first ≡ Fine) × (rest ≡ Fine)
 unfolding also
@@ -34,13 +27,6 @@ also-fine Fine rest e = (refl, e)
 also-fine (Faulty fault) rest e =
     let z : _≡_ {A = ℕ} 0 1 = cc in
     absurd (omega arith)
-
--- a unit that was read passed
-pub passed-is : {A : Type 0} (place : Fault → ℕ) (checks : Checked) (rest : Reply A) {a : A} → passed place checks rest ≡ is a
-    → (checks ≡ Fine) × (rest ≡ is a)
-unfolding passed
-passed-is place Fine rest e = (refl, e)
-passed-is place (Faulty fault) rest e = never e
 
 -- each fault that some checks can tell is of a sort
 abbrev pub Only : (Fault → Type 0) → Checked → Type 0

@@ -6,13 +6,10 @@ use mathlib.Core.List.{List}
 use native.Mathlib.Omega.{arith}
 use lib.Dec.{eqb, leb, ltb}
 use lib.ListN.{length}
-use borrow.Author.Tests.{ltb-true, leb-true, eqb-true, lt-ltb, le-leb, eq-eqb}
+use borrow.Author.Tests.{ltb-true, leb-true, eqb-true, lt-ltb, le-leb}
 use Rattle.numbers.specs.Bytes.{byteAt}
 use Rattle.numbers.proofs.Choices.{and-both}
-use Rattle.terms.specs.Reply.{Reply, is, refused, need, next}
-use Rattle.terms.specs.Refusals.{answer, refusal, refusalOf}
-use Rattle.terms.specs.declared.refusal.Answer.{Answer}
-use Rattle.terms.specs.declared.refusal.Answer.the-variants as A
+use Rattle.terms.specs.Reply.{is, refused, need}
 use Rattle.terms.proofs.Replies.{never, need-is, need-past}
 use Rattle.records.specs.Reading.{headOf}
 
@@ -51,13 +48,6 @@ module _ (s : List ℕ) (at kind len : ℕ) where
       let long : at + len ≤ length s = leb-true _ _ (t .0) in
       rw (lt-ltb at (length s) (omega arith), t .0, t .1)
 
-  pub other-head : leb (at + len) (length s) && eqb (byteAt s at) kind ≡ false → (end : ℕ) → headOf s at kind len ≡ is end → ⊥
-  other-head e end r =
-      let h = headed s at kind len r in
-      let t = rw (le-leb (at + len) (length s) (h .long), eq-eqb (byteAt s at) kind (h .first)) at e in
-      let z : _≡_ {A = ℕ} 0 1 = cc in
-      omega arith
-
 -- a head is not cut short where its length is there
 pub head-there : (s : List ℕ) (at kind len : ℕ) → 0 < len → at + len ≤ length s → (p : ℕ) → headOf s at kind len ≡ refused 1 p → ⊥
 unfolding headOf need
@@ -81,9 +71,3 @@ head-longer s t at kind len more b uncut = go (ltb at (length s)) (eqb (byteAt s
         let l = ltb-true at (length s) p in
         let m = leb-true (at + len) (length s) r in
         rw (b l, p, q, r, lt-ltb at (length t) (omega arith), le-leb (at + len) (length t) (omega arith))
-
--- an answer that is refused hands its refusal on
-pub handed : {B : Type 0} (h : Answer) (rest : ℕ → Reply B) → ((end : ℕ) → answer h ≡ is end → ⊥) → refusal (refusalOf h) ≡ next (answer h) rest
-unfolding next
-handed (A.Is n) rest h = absurd (h n refl)
-handed (A.Refused r) rest h = refl

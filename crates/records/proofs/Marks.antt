@@ -19,7 +19,7 @@ use Rattle.terms.specs.Checks.{inRange}
 use Rattle.terms.specs.declared.refusal.Fault.the-variants as F
 use Rattle.terms.specs.declared.refusal.Checked.{Checked}
 use Rattle.terms.specs.declared.refusal.Checked.the-variants.{Fine, Faulty}
-use Rattle.terms.proofs.Passing.{passes}
+use Rattle.terms.proofs.Passing.{passes, range-within}
 use Rattle.records.specs.declared.day.DayRecord.{DayRecord}
 use Rattle.records.specs.declared.unit.UnitRecord.{UnitRecord}
 use Rattle.records.specs.Layouts.{intervalKind, isUnit, fullLower, fullUpper, unitAt, largerOf, smallerOf, marginsOf}
@@ -27,7 +27,7 @@ use Rattle.records.specs.Reading.{aged, also, markFaults, rangeFaults, e
 use Rattle.records.specs.Decoding.{unitN0}
 use Rattle.records.specs.Inner.{isWhole, isFine, isPair, endsPass, marksPass}
 use Rattle.records.proofs.Checks.{also-fine}
-use Rattle.records.proofs.Accepted.{range-within, unit-is}
+use Rattle.records.proofs.Accepted.{unit-is}
 use Rattle.records.proofs.UnitHeads.{whole-read}
 
 fine-is : (r : Checked) → isFine r ≡ true → r ≡ Fine

@@ -1,12 +1,11 @@
 -- Units that lie one after another: the place of one by its index, from wherever the counting starts.
-use Prim.Native.Nat.{ℕ, zero, suc, _+_, _*_, _≤_, _<_}
+use Prim.Native.Nat.{ℕ, zero, suc, _≤_, _<_}
 use mathlib.Core.Path.{_≡_, refl, ap}
 use mathlib.Core.List.{List}
 use native.Mathlib.Omega.{arith}
 use native.Mathlib.Decide.{decLt}
-use Rattle.records.specs.Layouts.{longestUnit}
 use Rattle.records.specs.Reading.{unitEnd, placeFrom}
-use Rattle.records.proofs.UnitHeads.{unit-past, unit-most}
+use Rattle.records.proofs.UnitHeads.{unit-past}
 
 module _ (s : List ℕ) (at : ℕ) where
   -- counted from the second unit on, or from the first
@@ -32,9 +31,3 @@ module _ (s : List ℕ) (at : ℕ) where
   pub place-from : (i : ℕ) → at ≤ placeFrom s at i
   unfolding placeFrom
   place-from i = place-up zero i (omega arith)
-
-  -- by no more than the longest unit each
-  pub place-most : (i : ℕ) → placeFrom s at i ≤ at + longestUnit * i
-  unfolding placeFrom
-  place-most zero = omega arith
-  place-most (suc i) = omega (arith, place-most i, unit-most s (placeFrom s at i))

@@ -1,12 +1,12 @@
 -- What holds of a record that was read: each test of its head and of its fields passed. A test more among a day's or a group's fields is a line here, and no other law takes those fields apart.
 use Prim.Native.Nat.{ℕ, _≤_, _<_}
 use mathlib.Core.Path.{_≡_, ap}
-use mathlib.Core.Bool.{true}
+use mathlib.Core.Bool.{true, _||_}
 use mathlib.Core.List.{List}
 use native.Mathlib.Omega.{arith}
-use lib.Dec.{leb}
-use lib.ListN.{length}
-use borrow.Author.Tests.{ltb-true, leb-true}
+use lib.Dec.{leb, eqb}
+use borrow.Author.Tests.{ltb-true, leb-true, eqb-true}
+use Rattle.numbers.proofs.Choices.{and-both, or-either}
 use Rattle.terms.specs.Reply.{is}
 use Rattle.terms.specs.Checks.{mostUnits, unitCount}
 use Rattle.terms.proofs.Replies.{need-is, next-is}
@@ -15,20 +15,22 @@ use Rattle.records.specs.declared.group.GroupRecord.{GroupRecord}
 use Rattle.records.specs.declared.key.Last.{Last}
 use Rattle.records.specs.Layouts.{dayKind, dayLength, dayAt, dayLengthOf, groupAt}
 use Rattle.records.specs.Reading.{permitted, follows, keyOf, dayHeadOf, dayEnd, dayOf, dayFieldsOf, groupHeadOf, groupOf, groupFieldsOf}
-use Rattle.records.proofs.Heads.{headed, head-end}
-use Rattle.records.proofs.Checks.{both}
+use Rattle.records.proofs.Heads.{head-end}
 
 -- ---- the day record
 -- none is shorter than an 01h
 pub day-least : (d : DayRecord) → dayLength ≤ dayLengthOf d
 day-least d = omega arith
 
+-- no day has more than 100 quarters
+pub quarters-most : (quarters : ℕ) → permitted quarters ≡ true → quarters ≤ 100
+quarters-most q e =
+    or-either (eqb q 92) (eqb q 96 || eqb q 100) e (λ h. omega (arith, eqb-true q 92 h))
+    (λ k. or-either (eqb q 96) (eqb q 100) k (λ h. omega (arith, eqb-true q 96 h)) (λ h. omega (arith, eqb-true q 100 h)))
+
 module _ (s : List ℕ) {end : ℕ} (e : dayHeadOf s ≡ is end) where
   pub day-ends : dayEnd s ≡ end
   day-ends = head-end s 0 dayKind dayLength e
-
-  pub day-long : dayEnd s ≤ length s
-  day-long = headed s 0 dayKind dayLength e .long
 
 -- its fields passed
 pub record DayPassed (s : List ℕ) (d : DayRecord) : Type 0 where
@@ -76,7 +78,7 @@ group-passed s day last e =
       value = cc (age .1);
       early = ltb-true _ _ (quarter .0);
       counted = count .0;
-      most = leb-true _ mostUnits (both (leb 1 (groupAt s 0 .count)) (leb (groupAt s 0 .count) mostUnits) (count .0) .1);
+      most = leb-true _ mostUnits (and-both (leb 1 (groupAt s 0 .count)) (leb (groupAt s 0 .count) mostUnits) (count .0) .1);
       after = key .0;
     }
 

@@ -1,7 +1,7 @@
 -- The head of a unit record: what was read of it ends where the unit does, within the bytes, and comes wherever its first byte stands and its length fits. Kind and length of a unit are spelled in no other law.
 use Prim.Native.Nat.{ℕ, _+_, _≤_, _<_}
 use mathlib.Core.Path.{_≡_, refl, sym, ap, _∙_}
-use mathlib.Core.Bool.{Bool, true, false, _&&_, _||_, false≢true}
+use mathlib.Core.Bool.{Bool, true, false, _&&_, _||_, false≢true, or-true}
 use mathlib.Core.List.{List}
 use native.Mathlib.Omega.{arith}
 use native.Mathlib.Decide.{decLt}
@@ -19,10 +19,6 @@ use Rattle.records.specs.Layouts.{unitKind, intervalKind, isUnit, unitLe
 use Rattle.records.specs.Reading.{headOf, kindDue, unitHeadOf, unitEnd, unitOf, endsFit}
 use Rattle.records.specs.Inner.{isThere, isPlain, isInterval, isWhole}
 use Rattle.records.proofs.Heads.{headed, head-end, whole-head, whole-headed, head-there, head-longer}
-
-either : (t : Bool) → t || true ≡ true
-either true = refl
-either false = refl
 
 -- ---- by kind
 -- an 04h is longer than any other
@@ -85,7 +81,7 @@ module _ (s : List ℕ) (at : ℕ) where
       rw e
 
   pub interval-whole : isInterval s at ≡ true → isWhole s at ≡ true
-  interval-whole w = rw w (either (isPlain s at))
+  interval-whole w = rw w (or-true (isPlain s at))
 
   -- a unit record that lies there whole does so by its own kind and length, and the other way round
   whole-there : isWhole s at ≡ true → isThere s at (kindDue s at) (lengthOf (unitAt s at)) ≡ true

@@ -57,6 +57,6 @@ module _ (u : UnitRecord) (s : Sound u) where
       below x y z false e h = (omega zarith, h)
 
 -- of every unit that passes
-pub working : (u : UnitRecord) (floor : ℕ) → valueFaults u floor ≡ Fine
+pub margins-working : (u : UnitRecord) (floor : ℕ) → valueFaults u floor ≡ Fine
     → (marginsOf u .«step_down» ≡ largerOf (u .«step_down») (u .lower)) × (marginsOf u .«step_up» ≡ smallerOf (u .«step_up») (u .upper))
-working u floor e = narrower u (sound u floor e)
+margins-working u floor e = narrower u (sound u floor e)

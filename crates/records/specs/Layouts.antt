@@ -1,6 +1,6 @@
 -- "House records": one byte of kind, then the fields, each at its place; numbers have the most significant byte first, signed ones are two's complement.
 use Prim.Native.Nat.{ℕ, _+_}
-use mathlib.Core.Bool.{Bool, true, _&&_, _||_}
+use mathlib.Core.Bool.{Bool, _&&_, _||_}
 use mathlib.Core.List.{List, [], _∷_, _++_}
 use lib.Dec.{eqb}
 use lib.IntN.{ℤ, pos, negℤ}

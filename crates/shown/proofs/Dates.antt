@@ -18,7 +18,7 @@ use Rattle.numbers.proofs.Digits.{some-digit}
 use Rattle.numbers.proofs.ReadBack.{digit-is}
 use Rattle.text.specs.declared.numbers_in.Size.the-variants.{Is}
 use Rattle.text.specs.Numbers.{sizeOf, fieldOf}
-use Rattle.text.specs.Dates.{hasDate, dateIn, hasTime, momentIn, dayIn, minuteIn}
+use Rattle.text.specs.Dates.{hasDate, dateSpelled, hasTime, momentIn, dayIn, minuteIn}
 use Rattle.shown.specs.Inner.{Few, FewMoment}
 use Rattle.shown.specs.Shown.{twoDigits, dateWord, momentWord, dayShown, minuteShown, shownAs, whole}
 use Rattle.shown.proofs.Few.{few-date, few-moment}
@@ -42,8 +42,8 @@ module _ (d : Date) (f : Few d) (rest : List ℕ) where
   unfolding hasDate dateWord
   date-form = rw (four-size (d .year) (f .year), two-size (d .month) (f .month), two-size (d .day) (f .day))
 
-  date-back : dateIn (dateWord d ++ rest) ≡ d
-  unfolding dateIn dateWord
+  date-back : dateSpelled (dateWord d ++ rest) ≡ d
+  unfolding dateSpelled dateWord
   date-back = rw (four-size (d .year) (f .year), two-size (d .month) (f .month), two-size (d .day) (f .day))
 
 -- ---- moments
@@ -53,7 +53,7 @@ module _ (m : Moment) (f : FewMoment m) where
   time-form = rw (two-size (m .hour) (f .hour), two-size (m .minute) (f .minute))
 
   moment-back : momentIn (momentWord m) ≡ m
-  unfolding momentIn dateIn momentWord dateWord
+  unfolding momentIn dateSpelled momentWord dateWord
   moment-back =
       rw
       (four-size (m .date .year) (f .date .year), two-size (m .date .month) (f .date .month), two-size (m .date .day) (f .date .day), two-size (m .hour) (f .hour), two-size (m .minute) (f .minute))
@@ -71,9 +71,9 @@ unfolding dateWord
 date-length d = refl
 
 -- ---- read back
-pub day-back : (n : ℕ) → n < 2921940 → dayIn (dayShown n) ≡ whole n
+pub shown-day-back : (n : ℕ) → n < 2921940 → dayIn (dayShown n) ≡ whole n
 unfolding dayIn dayShown
-day-back n h =
+shown-day-back n h =
     let d = dateOf n in
     let f = few-date n h in
     let form = rw append-nil at (date-form d f []) in
@@ -87,9 +87,9 @@ at-back n h =
     let f = few-moment n h in
     rw (moment-length m, moment-form m f, time-form m f, moment-back m f, minute-moment n h)
 
-pub minute-back : (n : ℕ) → n ≤ 4294967295 → minuteIn (minuteShown n) ≡ whole n
+pub shown-minute-back : (n : ℕ) → n ≤ 4294967295 → minuteIn (minuteShown n) ≡ whole n
 unfolding minuteShown shownOf
-minute-back n h = go (leb n lastMinute) refl
+shown-minute-back n h = go (leb n lastMinute) refl
   where
     go : (t : Bool) → leb n lastMinute ≡ t → minuteIn (shownAs n (pick t (At (momentOf n)) Later)) ≡ whole n
     go true e = at-back n (leb-true n lastMinute e)

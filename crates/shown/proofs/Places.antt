@@ -11,7 +11,7 @@ use Rattle.numbers.specs.Choice.{pick}
 use Rattle.text.specs.declared.fields.Field.{Field}
 use Rattle.text.specs.declared.values_in.Form.{Form}
 use Rattle.text.specs.Numbers.{isBlank, blanks, fieldOf}
-use Rattle.text.specs.Dates.{valueIn, valueAt}
+use Rattle.text.specs.Dates.{valueIn, wholeAt}
 use Rattle.text.specs.Fields.{fieldAt, unsignedAt}
 use Rattle.shown.specs.Shown.{whole}
 
@@ -65,5 +65,5 @@ module _ (text front w rest : List ℕ) (so : text ≡ front ++ ((32 ∷ w) ++ r
 
   pub reads : (form : Form) (most index n : ℕ) (before : Field) → before .good ≡ true → before .end ≡ length front → valueIn form w ≡ whole n → n ≤ most
       → unsignedAt form most text index before ≡ record { value = n; field = place index }
-  unfolding unsignedAt valueAt
+  unfolding unsignedAt wholeAt
   reads form most index n before g e v h = rw (g, e, stands-at index, at-word, end, v, le-leb n most h)

@@ -19,11 +19,11 @@ use Rattle.text.specs.declared.line.DayLine.the-variants.{Is}
 use Rattle.text.specs.declared.values_in.Form.the-variants as F
 use Rattle.text.specs.Numbers.{blanks, fieldOf, numberIn}
 use Rattle.text.specs.Dates.{dayIn, minuteIn}
-use Rattle.text.specs.Fields.{fieldAt, overAt, dayAt, u8At, minuteAt}
+use Rattle.text.specs.Fields.{fieldAt, overAt, dayFieldAt, u8At, minuteAt}
 use Rattle.text.specs.Line.{same, dayWord, listedFields, listedOf}
 use Rattle.shown.specs.Shown.{dayShown, minuteShown, datedLine, shownLine, whole, HeldDay, DayShown}
 use Rattle.shown.proofs.Figures.{number-read, minute-read, day-read, solid-decimal}
-use Rattle.shown.proofs.Dates.{day-back, minute-back, solid-day, long-day, solid-minute, long-minute}
+use Rattle.shown.proofs.Dates.{shown-day-back, shown-minute-back, solid-day, long-day, solid-minute, long-minute}
 use Rattle.shown.proofs.Places.{Word, stops, place, reads}
 
 -- ---- DAY and three words
@@ -76,7 +76,7 @@ module _ (w1 w2 w3 : List ℕ) (word1 : Word w1) (word2 : Word w2) (word3 : Word
 
   module _ (a b c : ℕ) (r1 : dayIn w1 ≡ whole a) (r2 : numberIn w2 ≡ whole b) (r3 : minuteIn w3 ≡ whole c) (h1 : a ≤ 65535) (h2 : b ≤ 255) (h3 : c ≤ 4294967295) where
     fields : listedFields text (record { index = 0; start = 0; end = 3; good = true }) ≡ Is a b c
-    unfolding listedFields dayAt u8At minuteAt
+    unfolding listedFields dayFieldAt u8At minuteAt
     fields =
         let e1 = reads text dayWord w1 (32 ∷ (w2 ++ (32 ∷ w3))) so1 word1 end1 F.Day 65535 1 a (record { index = 0; start = 0; end = 3; good = true }) refl refl r1 h1 in
         let e2 = reads text front2 w2 (32 ∷ w3) so2 word2 end2 F.Number 255 2 b field1 refl (omega arith) r2 h2 in
@@ -105,7 +105,7 @@ module _ (a b c : ℕ) (h1 : a ≤ 65535) (h2 : b ≤ 255) (h3 : c ≤ 429496729
       (record { solid = solid-day a; long = long-day a })
       (number-word b)
       (record { solid = solid-minute c; long = long-minute c }) a b c
-      (day-back a (omega arith)) (number-read b (omega arith)) (minute-back c h3) h1 h2 h3
+      (shown-day-back a (omega arith)) (number-read b (omega arith)) (shown-minute-back c h3) h1 h2 h3
 
   -- what is shown stays as it is when it is shown again
   pub shown-again : shownLine (datedLine a b c) ≡ datedLine a b c

@@ -7,7 +7,9 @@ use lib.IntN.{ℤ, pos, negℤ}
 use lib.Signed.{ltZ, leZ}
 use mir.Syntax.{w32}
 use mir.Val.{SFits, toZ, ofZ}
-use Rattle.numbers.proofs.Integers.{zarith, plain-lt}
+use Rattle.numbers.specs.Range.{Within}
+use Rattle.numbers.proofs.Integers.{zarith, plain-lt, one-side}
+use Rattle.numbers.proofs.Choices.{and-both}
 use Rattle.terms.specs.Refusals.{check}
 use Rattle.terms.specs.Checks.{inRange}
 use Rattle.terms.specs.declared.refusal.Fault.{Fault}
@@ -84,3 +86,9 @@ module _ {z : ℤ} {r : Checked} (back : toZ w32 (ofZ w32 z) ≡ z) (f : Fault) 
 
   pub ends : (rest : Checked) {g : Fault} → r ≡ Faulty g → r ≡ check (inRange z) f rest
   ends rest h = ended (inRange z) f rest plain h
+
+-- a quantity in its range
+pub range-within : (z : ℤ) → inRange z ≡ true → Within 1000000 z
+range-within z e =
+    let p = and-both (leZ (negℤ (pos 1000000)) z) (leZ z (pos 1000000)) e in
+    omega (zarith, one-side z)

@@ -27,3 +27,25 @@ pub next-is : {A B : Type 0} (x : Reply A) (rest : A → Reply B) {b : B} → ne
 unfolding next
 next-is (is a) rest e = (a, (refl, e))
 next-is (refused n p) rest e = never e
+
+pub next-need : {A B : Type 0} (t : Bool) (n p : ℕ) (x : Reply A) (rest : A → Reply B) → next (need t n p x) rest ≡ need t n p (next x rest)
+unfolding next need
+next-need true n p x rest = refl
+next-need false n p x rest = refl
+
+-- a refusal came of the reading in front, or of what comes after it
+pub data From {A B : Type 0} (x : Reply A) (rest : A → Reply B) (n p : ℕ) : Type 0 where
+  front : x ≡ refused n p → From x rest n p
+  after : (a : A) → x ≡ is a → rest a ≡ refused n p → From x rest n p
+
+pub next-from : {A B : Type 0} (x : Reply A) (rest : A → Reply B) {n p : ℕ} → next x rest ≡ refused n p → From x rest n p
+unfolding next
+next-from (is a) rest e = after a refl e
+next-from (refused m q) rest {n} {p} e =
+    let z : m ≡ n = cc in
+    let y : q ≡ p = cc in
+    front (rw (z, y))
+
+pub from-either : {A B P : Type 0} {x : Reply A} {rest : A → Reply B} {n p : ℕ} → From x rest n p → (x ≡ refused n p → P) → ((a : A) → x ≡ is a → rest a ≡ refused n p → P) → P
+from-either (front h) f g = f h
+from-either (after a h k) f g = g a h k

@@ -33,7 +33,8 @@ module _ (checks : ℕ → Checked) where
   unfolding passed
   step-out e = rw e
 
-passed-is : (place : Fault → ℕ) (c : Checked) (rest : Reply ℕ) {n : ℕ} → passed place c rest ≡ is n → (c ≡ Fine) × (rest ≡ is n)
+-- a reading behind checks that was not refused passed them
+pub passed-is : {A : Type 0} (place : Fault → ℕ) (c : Checked) (rest : Reply A) {a : A} → passed place c rest ≡ is a → (c ≡ Fine) × (rest ≡ is a)
 unfolding passed
 passed-is place Fine rest e = (refl, e)
 passed-is place (Faulty fault) rest e = never e

@@ -1,7 +1,7 @@
 -- Digits read one by one: the size of all is the size of what is left after those read, and a number only grows.
 use Prim.Native.Nat.{ℕ, _+_, _*_, _-_, _≤_, _<_}
 use mathlib.Core.Path.{_≡_, refl}
-use mathlib.Core.Bool.{Bool, true, false, _&&_}
+use mathlib.Core.Bool.{true, false, and-false}
 use mathlib.Core.List.{List, [], _∷_}
 use native.Mathlib.Numerals.{add-one}
 use native.Mathlib.Omega.{arith}
@@ -12,10 +12,6 @@ use Rattle.numbers.specs.Decimal.{isDigit, allDigits, numberFrom}
 use Rattle.numbers.proofs.ReadBack.{grows}
 use Rattle.text.specs.declared.numbers_in.Size.the-variants.{Is, No}
 use Rattle.text.specs.Numbers.{sizeFrom, minus}
-
-pub and-false : (a : Bool) → a && false ≡ false
-and-false true = refl
-and-false false = refl
 
 pub too-large : (n : ℕ) (s : List ℕ) → 4294967295 < n → sizeFrom n s ≡ No
 unfolding sizeFrom

@@ -1,7 +1,7 @@
 -- Two texts byte by byte: they are the same where what is left of both is; and the length of an empty line.
 use Prim.Native.Nat.{ℕ, _+_, _-_, _<_}
 use mathlib.Core.Path.{_≡_, refl}
-use mathlib.Core.Bool.{true, false}
+use mathlib.Core.Bool.{true, false, and-false}
 use mathlib.Core.List.{List, [], _∷_}
 use native.Mathlib.Numerals.{add-one}
 use native.Mathlib.Omega.{arith}
@@ -9,7 +9,7 @@ use lib.Dec.{eqb}
 use lib.ListN.{length, getD, drop}
 use lib.Seq.{drop-cons}
 use Rattle.text.specs.Line.{same, bareLength}
-use Rattle.text.proofs.Digits.{and-false, drop-all}
+use Rattle.text.proofs.Digits.{drop-all}
 
 pub same-uneven : (s t : List ℕ) → (length s ≡ length t → ⊥) → same s t ≡ false
 unfolding same

@@ -36,15 +36,15 @@ partOf s from to = sizeOr0 (sizeOf (take (to - from) (drop from s)))
 unfoldable pub hasDate : List ℕ → Bool
 hasDate s = isPart s 0 4 && (eqb (getD s 4 0) 45 && (isPart s 5 7 && (eqb (getD s 7 0) 45 && isPart s 8 10)))
 
-unfoldable pub dateIn : List ℕ → Date
-dateIn s = record { year = partOf s 0 4; month = partOf s 5 7; day = partOf s 8 10 }
+unfoldable pub dateSpelled : List ℕ → Date
+dateSpelled s = record { year = partOf s 0 4; month = partOf s 5 7; day = partOf s 8 10 }
 
 -- ---- moments: a date, 'T', two digits, ':', two, 'Z'
 unfoldable pub hasTime : List ℕ → Bool
 hasTime s = eqb (getD s 10 0) 84 && (isPart s 11 13 && (eqb (getD s 13 0) 58 && (isPart s 14 16 && eqb (getD s 16 0) 90)))
 
 unfoldable pub momentIn : List ℕ → Moment
-momentIn s = record { date = dateIn s; hour = partOf s 11 13; minute = partOf s 14 16 }
+momentIn s = record { date = dateSpelled s; hour = partOf s 11 13; minute = partOf s 14 16 }
 
 -- ---- fields
 abbrev pub wholeBy : Number → Whole
@@ -53,7 +53,7 @@ wholeBy N.No = noWhole
 
 -- a date or a number
 unfoldable pub dayIn : List ℕ → Whole
-dayIn s = pick (eqb (length s) 10 && hasDate s) (wholeBy (dayOf (dateIn s))) (numberIn s)
+dayIn s = pick (eqb (length s) 10 && hasDate s) (wholeBy (dayOf (dateSpelled s))) (numberIn s)
 
 -- a moment or a number
 unfoldable pub minuteIn : List ℕ → Whole
@@ -65,5 +65,5 @@ valueIn F.Day s = dayIn s
 valueIn F.Minute s = minuteIn s
 
 -- the value of the field that starts at a place
-unfoldable pub valueAt : Form → List ℕ → ℕ → Whole
-valueAt form text start = valueIn form (fieldOf (drop start text))
+unfoldable pub wholeAt : Form → List ℕ → ℕ → Whole
+wholeAt form text start = valueIn form (fieldOf (drop start text))

@@ -16,7 +16,7 @@ use Rattle.text.specs.declared.fields.Kwh.{Kwh}
 use Rattle.text.specs.declared.values_in.Form.{Form}
 use Rattle.text.specs.declared.values_in.Form.the-variants.{Number, Day, Minute}
 use Rattle.text.specs.Numbers.{blanks, fieldOf}
-use Rattle.text.specs.Dates.{valueAt}
+use Rattle.text.specs.Dates.{wholeAt}
 
 -- where the field after a place starts
 abbrev pub startAfter : List ℕ → ℕ → ℕ
@@ -56,7 +56,7 @@ unsignedOf most n f =
 unfoldable pub unsignedAt : Form → ℕ → List ℕ → ℕ → Field → Unsigned
 unsignedAt form most text index before =
     pick (before .good)
-    (unsignedOf most (valueAt form text (fieldAt text index (before .end) .start)) (fieldAt text index (before .end)))
+    (unsignedOf most (wholeAt form text (fieldAt text index (before .end) .start)) (fieldAt text index (before .end)))
     (record { value = 0; field = before })
 
 abbrev pub shortAt : Form → List ℕ → ℕ → Field → Short
@@ -80,8 +80,8 @@ unfoldable pub u32At : List ℕ → ℕ → Field → Long
 u32At text index before = longAt Number text index before
 
 -- a day and a minute, as dates or as numbers
-unfoldable pub dayAt : List ℕ → ℕ → Field → Short
-dayAt text index before = shortAt Day text index before
+unfoldable pub dayFieldAt : List ℕ → ℕ → Field → Short
+dayFieldAt text index before = shortAt Day text index before
 
 unfoldable pub minuteAt : List ℕ → ℕ → Field → Long
 minuteAt text index before = longAt Minute text index before
@@ -103,5 +103,5 @@ signedOf n f =
 unfoldable pub i32At : List ℕ → ℕ → Field → Kwh
 i32At text index before =
     pick (before .good)
-    (signedOf (valueAt Number text (fieldAt text index (before .end) .start)) (fieldAt text index (before .end)))
+    (signedOf (wholeAt Number text (fieldAt text index (before .end) .start)) (fieldAt text index (before .end)))
     (noKwh before)

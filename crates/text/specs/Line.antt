@@ -13,7 +13,7 @@ use Rattle.text.specs.declared.line.DayLine.{DayLine}
 use Rattle.text.specs.declared.line.DayLine.the-variants.{Is, No}
 use Rattle.text.specs.declared.fields.Field.{Field}
 use Rattle.text.specs.Numbers.{isBlank, fieldOf}
-use Rattle.text.specs.Fields.{fieldAt, wrong, overAt, u8At, u16At, u32At, i32At, dayAt, minuteAt}
+use Rattle.text.specs.Fields.{fieldAt, wrong, overAt, u8At, u16At, u32At, i32At, dayFieldAt, minuteAt}
 
 -- ---- words
 unfoldable pub same : List ℕ → List ℕ → Bool
@@ -40,9 +40,9 @@ endWord = 69 ∷ 78 ∷ 68 ∷ []
 abbrev pub ended : ℕ → Field → Line → Line
 ended kind last line = pick (last .good) line (Not kind last)
 
-unfoldable pub dayOf : List ℕ → Field → Line
-dayOf text word =
-    let day = dayAt text 1 word in
+unfoldable pub dayLineOf : List ℕ → Field → Line
+dayLineOf text word =
+    let day = dayFieldAt text 1 word in
     let quarters = u8At text 2 (day .field) in
     let run = minuteAt text 3 (quarters .field) in
     let position-limit = u16At text 4 (run .field) in
@@ -50,8 +50,8 @@ dayOf text word =
     ended dayKind (overAt text 6 (margin-limit .field))
     (Day (dayWith (day .value) (quarters .value) (run .value) (position-limit .value) (margin-limit .value)))
 
-unfoldable pub groupOf : List ℕ → Field → Line
-groupOf text word =
+unfoldable pub groupLineOf : List ℕ → Field → Line
+groupLineOf text word =
     let brp = u16At text 1 word in
     let zone = u8At text 2 (brp .field) in
     let quarter = u8At text 3 (zone .field) in
@@ -69,8 +69,8 @@ endsOf text made u =
     (ended unitKind (overAt text 12 (upper .field))
     (Unit (withEnds u intervalKind (lower .value) (upper .value))))
 
-unfoldable pub unitOf : List ℕ → Field → Line
-unitOf text word =
+unfoldable pub unitLineOf : List ℕ → Field → Line
+unitLineOf text word =
     let number = u16At text 1 word in
     let class = u8At text 2 (number .field) in
     let coincide = u8At text 3 (class .field) in
@@ -92,8 +92,8 @@ unitOf text word =
     (step-up .value)
     (made .value))
 
-unfoldable pub endOf : List ℕ → Field → Line
-endOf text word =
+unfoldable pub endLineOf : List ℕ → Field → Line
+endLineOf text word =
     let groups = u32At text 1 word in
     ended endKind (overAt text 2 (groups .field))
     (End (record { groups = groups .value }))
@@ -101,10 +101,10 @@ endOf text word =
 -- the record that a word begins; no record is of kind 0
 unfoldable pub fieldsOf : List ℕ → List ℕ → Field → Line
 fieldsOf name text word =
-    pick (same name unitWord) (unitOf text word)
-    (pick (same name groupWord) (groupOf text word)
-    (pick (same name dayWord) (dayOf text word)
-    (pick (same name endWord) (endOf text word)
+    pick (same name unitWord) (unitLineOf text word)
+    (pick (same name groupWord) (groupLineOf text word)
+    (pick (same name dayWord) (dayLineOf text word)
+    (pick (same name endWord) (endLineOf text word)
     (Not 0 (wrong word)))))
 
 -- ---- lines
@@ -141,7 +141,7 @@ lineOf line number = bareOf (uncommented true (drop (markLength line number) lin
 -- ---- the DAY line of the day list: its day, quarters and run minute, each as the text has it, and nothing after them
 unfoldable pub listedFields : List ℕ → Field → DayLine
 listedFields text word =
-    let day = dayAt text 1 word in
+    let day = dayFieldAt text 1 word in
     let quarters = u8At text 2 (day .field) in
     let run = minuteAt text 3 (quarters .field) in
     pick (overAt text 4 (run .field) .good) (Is (day .value) (quarters .value) (run .value)) No

@@ -2,7 +2,7 @@
 ghost use mathlib.Core.Path.{_≡_};
 ghost use Prim.Native.Nat.{_≤_};
 ghost use lib.ListN.{length};
-ghost use Rattle.text.specs.Dates.{isPart, partOf, hasDate, dateIn, hasTime, momentIn, wholeBy, dayIn, minuteIn};
+ghost use Rattle.text.specs.Dates.{isPart, partOf, hasDate, dateSpelled, hasTime, momentIn, wholeBy, dayIn, minuteIn};
 use crate::numbers_in::Size;
 use crate::numbers_in::Whole;
 use crate::numbers_in::none;
@@ -64,7 +64,7 @@ fn has_date(s: &[u8]) -> bool
 
 fn date_in(s: &[u8]) -> Date
     requires { ⌜ 10 ≤ length (now s) ⌝ }
-    ensures { λ r. ⌜ r ≡ dateIn (now (s .entry)) ⌝ }
+    ensures { λ r. ⌜ r ≡ dateSpelled (now (s .entry)) ⌝ }
 {
     let year = part_of(s, 0, 4);
     let month = part_of(s, 5, 7);

@@ -1,7 +1,7 @@
 // The fields of a line: where each stands, whether it is in the form, and its value by width.
 ghost use mathlib.Core.Path.{_≡_};
 ghost use Prim.Native.Nat.{_≤_};
-ghost use Rattle.text.specs.Fields.{fieldAt, wrong, overAt, noUnsigned, unsignedOf, unsignedAt, u8At, u16At, u32At, dayAt, minuteAt, noKwh, negativeOf, positiveOf, signedOf, i32At};
+ghost use Rattle.text.specs.Fields.{fieldAt, wrong, overAt, noUnsigned, unsignedOf, unsignedAt, u8At, u16At, u32At, dayFieldAt, minuteAt, noKwh, negativeOf, positiveOf, signedOf, i32At};
 use crate::numbers_in::Whole;
 use crate::numbers_in::after_blanks;
 use crate::numbers_in::field_end;
@@ -158,7 +158,7 @@ pub fn u32_at(text: &[u8], index: u8, before: Field) -> Long
 
 // A day, as a date or as a number.
 pub fn day_at(text: &[u8], index: u8, before: Field) -> Short
-    ensures { λ r. ⌜ r ≡ dayAt (now (text .entry)) index before ⌝ }
+    ensures { λ r. ⌜ r ≡ dayFieldAt (now (text .entry)) index before ⌝ }
 {
     let n = unsigned_at(text, index, before, 65535, Form::Day);
     let field = n.field;

@@ -4,7 +4,7 @@ ghost use mathlib.Core.Bool.{true, _&&_};
 ghost use Prim.Native.Nat.{_≤_};
 ghost use lib.Dec.{eqb};
 ghost use lib.ListN.{length};
-ghost use Rattle.text.specs.Line.{same, dayOf, groupOf, endsOf, unitOf, endOf, fieldsOf, recordOf, uncommented, bareLength, bareOf, markLength, lineOf, listedFields, listedOf};
+ghost use Rattle.text.specs.Line.{same, dayLineOf, groupLineOf, endsOf, unitLineOf, endLineOf, fieldsOf, recordOf, uncommented, bareLength, bareOf, markLength, lineOf, listedFields, listedOf};
 pub use crate::fields::Field;
 use crate::fields::day_at;
 use crate::fields::field_at;
@@ -69,7 +69,7 @@ fn is_same(a: &[u8], b: &[u8]) -> bool
 
 // Each field starts where the one before it ends, and after the last stands nothing.
 fn day_in(text: &[u8], word: Field) -> Line
-    ensures { λ r. ⌜ r ≡ dayOf (now (text .entry)) word ⌝ }
+    ensures { λ r. ⌜ r ≡ dayLineOf (now (text .entry)) word ⌝ }
 {
     let day = day_at(text, 1, word);
     let quarters = u8_at(text, 2, day.field);
@@ -90,7 +90,7 @@ fn day_in(text: &[u8], word: Field) -> Line
 }
 
 fn group_in(text: &[u8], word: Field) -> Line
-    ensures { λ r. ⌜ r ≡ groupOf (now (text .entry)) word ⌝ }
+    ensures { λ r. ⌜ r ≡ groupLineOf (now (text .entry)) word ⌝ }
 {
     let brp = u16_at(text, 1, word);
     let zone = u8_at(text, 2, brp.field);
@@ -128,7 +128,7 @@ fn ends_in(text: &[u8], made: Field, u: UnitRecord) -> Line
 }
 
 fn unit_in(text: &[u8], word: Field) -> Line
-    ensures { λ r. ⌜ r ≡ unitOf (now (text .entry)) word ⌝ }
+    ensures { λ r. ⌜ r ≡ unitLineOf (now (text .entry)) word ⌝ }
 {
     let number = u16_at(text, 1, word);
     let class = u8_at(text, 2, number.field);
@@ -154,7 +154,7 @@ fn unit_in(text: &[u8], word: Field) -> Line
 }
 
 fn end_in(text: &[u8], word: Field) -> Line
-    ensures { λ r. ⌜ r ≡ endOf (now (text .entry)) word ⌝ }
+    ensures { λ r. ⌜ r ≡ endLineOf (now (text .entry)) word ⌝ }
 {
     let groups = u32_at(text, 1, word);
     let last = over_at(text, 2, groups.field);

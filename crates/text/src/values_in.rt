@@ -1,6 +1,6 @@
 // The value of a field, by its form.
 ghost use mathlib.Core.Path.{_≡_};
-ghost use Rattle.text.specs.Dates.{valueIn, valueAt};
+ghost use Rattle.text.specs.Dates.{valueIn, wholeAt};
 use crate::dates_in::day_in;
 use crate::dates_in::minute_in;
 use crate::numbers_in::Whole;
@@ -27,7 +27,7 @@ fn value_in(field: &[u8], form: Form) -> Whole
 
 // The value of the field that starts at a place.
 pub fn value_at(text: &[u8], start: usize, form: Form) -> Whole
-    ensures { λ r. ⌜ r ≡ valueAt form (now (text .entry)) start ⌝ }
+    ensures { λ r. ⌜ r ≡ wholeAt form (now (text .entry)) start ⌝ }
 {
     if text.len() <= start {
         return none();

@@ -9,8 +9,8 @@ use lib.Dec.{eqb, ltb}
 use lib.ListN.{length}
 use Rattle.numbers.specs.Bytes.{byteAt}
 use Rattle.numbers.specs.Choice.{pick}
-use Rattle.terms.specs.Reply.{Reply, is, need, next}
-use Rattle.terms.proofs.Replies.{need-is}
+use Rattle.terms.specs.Reply.{is, need, next}
+use Rattle.terms.proofs.Replies.{need-is, next-need}
 use Rattle.records.specs.Layouts.{dayKind, dayLength, dayAt, dayLengthOf, groupKind, groupLength, endKind, endLength}
 use Rattle.records.specs.Reading.{headOf, dayHeadOf, groupHeadOf, endHeadOf}
 use Rattle.records.proofs.Heads.{headed, whole-head}
@@ -88,11 +88,6 @@ pub record Came (s : List ℕ) (at : ℕ) (state : State) (h : Head) : Type 0 wh
   pub past : h .end ≡ at + (1 + bodyOf state (byteAt s at))
   pub end : h .end ≡ at + lengthIn (h .role) s at
   pub long : h .end ≤ length s
-
-next-need : {A B : Type 0} (t : Bool) (n p : ℕ) (x : Reply A) (rest : A → Reply B) → next (need t n p x) rest ≡ need t n p (next x rest)
-unfolding next need
-next-need true n p x rest = refl
-next-need false n p x rest = refl
 
 module _ (s : List ℕ) (at : ℕ) (state : State) where
   pub came : (h : Head) → headIn s at state ≡ is h → Came s at state h

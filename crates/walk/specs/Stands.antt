@@ -51,11 +51,11 @@ abbrev pub standOf : Walker → Stand
 standOf w = record { state = w .state; place = w .place }
 
 -- on the same bytes, from there
-abbrev pub standing : Walker → Stand → Walker
-standing w to = record { bytes = w .bytes; state = to .state; place = to .place }
+abbrev pub walkerAt : Walker → Stand → Walker
+walkerAt w to = record { bytes = w .bytes; state = to .state; place = to .place }
 
 abbrev pub aheadOf : Walker → ℕ → Walker
-aheadOf w steps = standing w (standAhead (now (w .bytes)) (standOf w) steps)
+aheadOf w steps = walkerAt w (standAhead (now (w .bytes)) (standOf w) steps)
 
 -- one step: what is replied, and the walker after that reply
 pub record Moving : Type 0 where
@@ -68,4 +68,4 @@ movedReply m = record { reply = stepReply (m .reply); walker = record { bytes = 
 abbrev pub moveOf : Walker → Moving
 moveOf w =
     let turned = turnOf (now (w .bytes)) (standOf w) in
-    record { reply = turned .reply; walker = standing w (turned .stand) }
+    record { reply = turned .reply; walker = walkerAt w (turned .stand) }

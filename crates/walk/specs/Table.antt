@@ -18,22 +18,22 @@ use Rattle.walk.specs.declared.table.Head.{Head}
 
 -- ---- the table
 -- an entry: the record comes as what it is to the day, with a body of so many bytes, or it may not come
-pub data Entry : Type 0 where
-  comes : Role → ℕ → Entry
-  none : Entry
+pub data Cell : Type 0 where
+  comes : Role → ℕ → Cell
+  none : Cell
 
 -- fresh takes 01h, which opens the day; open takes 02h, a block, and 0Fh, which closes the day; closed takes none
-abbrev pub table : State → ℕ → Entry
+abbrev pub table : State → ℕ → Cell
 table Fresh kind = pick (eqb kind dayKind) (comes Opens (dayLength - 1)) none
 table Open kind = pick (eqb kind groupKind) (comes Block (groupLength - 1)) (pick (eqb kind endKind) (comes Closes (endLength - 1)) none)
 table Closed kind = none
 
 -- ---- what it tells
-abbrev pub body : Entry → ℕ
+abbrev pub body : Cell → ℕ
 body (comes role length) = length
 body none = 0
 
-abbrev pub roleOr : Role → Entry → Role
+abbrev pub roleOr : Role → Cell → Role
 roleOr other (comes role length) = role
 roleOr other none = other
 

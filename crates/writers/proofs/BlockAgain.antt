@@ -1,14 +1,13 @@
 -- A block that a reader accepted, written again from its values as columns, gives the same bytes: each unit is a row of the columns, and passes.
 use Prim.Native.Nat.{ℕ, zero, suc, _+_, _≤_, _<_}
 use mathlib.Core.Path.{_≡_, refl, sym, ap, _∙_}
-use mathlib.Core.Bool.{Bool, true, false, _||_}
+use mathlib.Core.Bool.{true}
 use mathlib.Core.List.{List}
 use native.Mathlib.Decide.{decLt}
 use native.Mathlib.Omega.{arith}
 use lib.ListN.{length, take, drop}
 use lib.Seq.{take-add}
-use lib.Dec.{eqb}
-use borrow.Author.Tests.{eqb-true, eq-eqb, le-leb, lt-ltb}
+use borrow.Author.Tests.{eq-eqb, le-leb, lt-ltb}
 use Rattle.numbers.specs.Bytes.{Bytes}
 use Rattle.numbers.proofs.Columns.{column-length, column-at}
 use Rattle.terms.specs.Reply.{is, need, next}
@@ -28,7 +27,7 @@ use Rattle.records.specs.Reading.{permitted, groupOf, judgedBy, valueFaults, un
 use Rattle.records.proofs.Accepted.{unit-is, block-end}
 use Rattle.records.proofs.Checks.{also-fine}
 use Rattle.records.proofs.Heads.{headed}
-use Rattle.records.proofs.Read.{GroupPassed, group-passed, GroupRead, group-read}
+use Rattle.records.proofs.Read.{GroupPassed, group-passed, GroupRead, group-read, quarters-most}
 use Rattle.writers.specs.Columns.{Columns, rowOf, columnsIn, count, same, even, floorAt, rowChecks}
 use Rattle.writers.specs.Writing.{roomFor, groupChecks, unitsEnd, unitsChecked, blockLength, writeBlockOf, groupOver, unitsBytes, blockBytes, BlockWritten}
 use Rattle.writers.proofs.Runs.{run-again}
@@ -91,16 +90,6 @@ module _ (s : List ℕ) (units : ℕ) where
   even-in = simp (column-length, eq-eqb units units refl)
 
 -- ---- the whole block
-either : {P : Type 0} (a b : Bool) → (a || b) ≡ true → (a ≡ true → P) → (b ≡ true → P) → P
-either true b e f g = f refl
-either false b e f g = g e
-
--- no day has more than 100 quarters
-most : (quarters : ℕ) → permitted quarters ≡ true → quarters ≤ 100
-most q e =
-    either (eqb q 92) (eqb q 96 || eqb q 100) e (λ h. omega (arith, eqb-true q 92 h))
-    (λ k. either (eqb q 96) (eqb q 100) k (λ h. omega (arith, eqb-true q 96 h)) (λ h. omega (arith, eqb-true q 100 h)))
-
 module _ (s : List ℕ) (small : Bytes s) (day : DayRecord) (last : Last) (g : GroupRecord) {n : ℕ} (right : permitted (day .quarters) ≡ true)
     (group : groupOf s day last ≡ is g) (units : unitsOf s groupLength 0 (judgedBy g day) (g .count) ≡ is n) where
   abbrev values : Columns
@@ -129,7 +118,7 @@ module _ (s : List ℕ) (small : Bytes s) (day : DayRecord) (last : Last) (g : G
   takes room h =
       let v = passed .value in
       let early : g .quarter < day .quarters = rw v (passed .early) in
-      let soon = lt-ltb (g .quarter) 100 (omega (arith, most (day .quarters) right)) in
+      let soon = lt-ltb (g .quarter) 100 (omega (arith, quarters-most (day .quarters) right)) in
       let some : unitCount (count values) ≡ true = rw (counted, v) (passed .counted) in
       let all = fine-scan (rowChecks values) 0 (count values) (λ i l m. fine i (omega (arith, counted))) in
       let fits = le-leb (blockLength values) room (omega (arith, ends)) in

@@ -20,6 +20,12 @@ pub record Going (f : ℕ → List ℕ) (units at : ℕ) (entry room : List ℕ)
   pub kept : length room ≡ length entry
   pub so : room ≡ laidAt entry at (run f i)
 
+-- runs of the same records
+pub run-same : (f g : ℕ → List ℕ) (n : ℕ) → ((i : ℕ) → i < n → f i ≡ g i) → run f n ≡ run g n
+unfolding run
+run-same f g zero h = refl
+run-same f g (suc n) h = rw (run-same f g n (λ i l. h i (omega arith)), h n (omega arith))
+
 module _ (f : ℕ → List ℕ) where
   pub run-more : (i : ℕ) → length (run f (suc i)) ≡ length (run f i) + length (f i)
   unfolding run

@@ -1,14 +1,13 @@
 -- The block's refusal, 12, or the columns that were read through the steps, and what these leave written.
 use Prim.Native.Nat.{_≤_}
-use mathlib.Core.Path.{_≡_, refl, sym, ap, _∙_}
+use mathlib.Core.Path.{refl, sym, ap, _∙_}
 use native.Mathlib.Omega.{arith}
 use borrow.Author.Tests.{lt-leb, le-leb}
 use denote.Ref.{now}
 use lib.ListN.{length}
-use Rattle.terms.specs.Reply.{is}
 use Rattle.writers.specs.Results.{resultLength}
 use Rattle.blocks.specs.Blocks.{blockCount}
-use Rattle.blocks.specs.Checking.{blockReply, blockUnitsOf}
+use Rattle.blocks.specs.Checking.{blockReply}
 use Rattle.blocks.proofs.Telling.{taking-refused, taking-small, taking-done, taken-long}
 use borrow.Author.Needs.{needs}
 use Rattle.blocks.proofs.result.take_through.Statement.{statement}

@@ -1,11 +1,11 @@
 -- `take_block` meets its contract, answer by answer: the group record's refusal, the units' or 12, and the result of a block that passed.
-use mathlib.Core.Path.{_≡_, sym, ap, _∙_}
+use mathlib.Core.Path.{sym, ap, _∙_}
 use denote.Ref.{now}
-use Rattle.terms.specs.Reply.{is, need, next}
+use Rattle.terms.specs.Reply.{next}
 use Rattle.records.specs.Answers.{groupReply}
 use Rattle.day.specs.Checking.{blockFieldsOf}
 use Rattle.day.specs.Offers.{blockTaken}
-use Rattle.blocks.specs.Inner.{unitsTaken, blockAfter}
+use Rattle.blocks.specs.Inner.{blockAfter}
 use Rattle.records.proofs.Read.{group-passed}
 use Rattle.blocks.proofs.Telling.{took-long}
 use Rattle.day.proofs.Counting.{block-then}

@@ -1,6 +1,6 @@
 -- `copy` meets its contract: after i turns the first i places are those of the column copied.
 use Prim.Native.Nat.{_-_}
-use mathlib.Core.Path.{_≡_, sym, _∙_}
+use mathlib.Core.Path.{sym, _∙_}
 use native.Mathlib.Omega.{arith}
 use denote.Ref.{now}
 use lib.IntN.{pos}

@@ -1,5 +1,5 @@
 -- `lay_i32_field` meets its contract: the digits of the size stand behind the minus sign where the number is negative, else behind the space.
-use Prim.Native.Nat.{_+_, _<_}
+use Prim.Native.Nat.{_+_}
 use mathlib.Core.Path.{_≡_}
 use native.Mathlib.Omega.{arith}
 use lib.IntN.{natAbs}

@@ -1,7 +1,5 @@
 -- `lay_u8_field` meets its contract: the number is its one digit, or has at most 3.
 use Prim.Native.Nat.{_+_, _<_}
-use mathlib.Core.Path.{sym}
-use mathlib.Core.List.{[], _∷_}
 use native.Mathlib.Omega.{arith}
 use lib.ListN.{length}
 use denote.Ref.{now}

@@ -1,5 +1,4 @@
 -- `lay_each` meets its contract: its parts stand one behind another.
-use native.Mathlib.Omega.{arith}
 use denote.Ref.{now}
 use Rattle.lines.specs.Lines.{i32Field}
 use Rattle.lines.proofs.Parts.{four-fields}

@@ -5,7 +5,7 @@ use denote.Ref.{now}
 use lib.ListN.{length}
 use native.Mathlib.Omega.{arith}
 use borrow.Author.Tests.{not-true, not-false, lt-leb, le-leb, leb-true}
-use Rattle.making.specs.Making.{unitMade, unitTurn}
+use Rattle.making.specs.Making.{madeByUnit, unitTurn}
 use borrow.Author.Needs.{needs}
 use Rattle.making.proofs.making.unit.Statement.{statement}
 use Rattle.making.proofs.making.unit.Tie as tie
@@ -46,7 +46,7 @@ same-length : tie.Need-same-length
 same-length c = search needs
 
 returns-2 : tie.Need-returns-2
-unfolding unitTurn unitMade
+unfolding unitTurn madeByUnit
 returns-2 c =
     let last = c .before in
     let found = last .before .before in
@@ -69,7 +69,7 @@ same-length-2 : tie.Need-same-length-2
 same-length-2 c = search needs
 
 returns-3 : tie.Need-returns-3
-unfolding unitTurn unitMade
+unfolding unitTurn madeByUnit
 returns-3 c =
     let last = c .before .before in
     let found = last .before .before in

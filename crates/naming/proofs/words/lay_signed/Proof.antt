@@ -1,7 +1,5 @@
 -- `lay_signed` meets its contract: the table is that of the digit pairs, and the number comes back from its bits.
-use mathlib.Core.Path.{_≡_, refl}
-use mir.Syntax.{w32}
-use mir.Val.{toZ, ofZ}
+use mathlib.Core.Path.{refl}
 use mir.Facts.{toZ-ofZ}
 use Rattle.numbers.specs.Column.{column}
 use Rattle.lines.specs.Inner.{digitPairs}

@@ -1,6 +1,5 @@
 -- Each return is by the bytes that were looked at so far.
-use mathlib.Core.Path.{sym, ap, _∙_}
-use native.Mathlib.Omega.{arith}
+use mathlib.Core.Path.{sym}
 use denote.Ref.{now}
 use Prim.Native.Nat.{_+_}
 use Rattle.numbers.specs.Bytes.{byteAt}

@@ -4,7 +4,6 @@ use denote.Ref.{now}
 use Rattle.numbers.specs.Bytes.{byteAt}
 use Rattle.numbers.proofs.ReadBack.{digit-bounds}
 use Rattle.partner.proofs.Ends.{digit-there, zero-ends, more-ends}
-use borrow.Author.Needs.{needs}
 use Rattle.partner.proofs.fields.numeral_from.Statement.{statement}
 use Rattle.partner.proofs.fields.numeral_from.Tie as tie
 

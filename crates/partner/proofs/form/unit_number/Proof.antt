@@ -1,6 +1,5 @@
 -- The cap lies one above the largest number: what is not above that was not changed.
 use mathlib.Core.Path.{sym, ap, _∙_}
-use native.Mathlib.Omega.{arith}
 use denote.Ref.{now}
 use Rattle.partner.specs.Form.{numeralOf}
 use Rattle.partner.specs.Inner.{numberCap, capped, heldReply}

@@ -1,11 +1,9 @@
 -- The form, and then the limits of its values: those that pass were not changed by a cap.
-use mathlib.Core.Path.{refl, sym, ap, _∙_}
+use mathlib.Core.Path.{sym, ap, _∙_}
 use native.Mathlib.Omega.{arith}
 use denote.Ref.{now}
-use Rattle.terms.specs.Reply.{is, next}
 use Rattle.terms.specs.Refusals.{answer}
 use Rattle.partner.specs.Form.{formOf}
-use Rattle.partner.specs.Line.{lineIn, startsIn, readOf}
 use Rattle.partner.specs.Inner.{quarterCap, cappedForm, formReply}
 use Rattle.partner.proofs.Amounts.{mapped-is, mapped-refused}
 use Rattle.partner.proofs.Capped.{least-most}

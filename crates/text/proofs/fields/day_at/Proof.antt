@@ -1,5 +1,5 @@
 -- The value is at most the largest of its width.
-use Rattle.text.specs.Fields.{dayAt}
+use Rattle.text.specs.Fields.{dayFieldAt}
 use borrow.Author.Needs.{needs}
 use Rattle.text.proofs.fields.day_at.Statement.{statement}
 use Rattle.text.proofs.fields.day_at.Tie as tie
@@ -11,7 +11,7 @@ cast-t7 : tie.Need-cast-t7
 cast-t7 c = search needs
 
 returns : tie.Need-returns
-unfolding dayAt
+unfolding dayFieldAt
 returns c = rw (← (c .before .before .unsigned-at .ensures .0))
 
 pub day-at-spec : {M : Type 1} → statement M

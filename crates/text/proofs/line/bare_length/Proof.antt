@@ -1,6 +1,5 @@
 -- Of an empty line nothing is left, and else the last byte tells.
 use native.Mathlib.Omega.{arith}
-use lib.ListN.{length}
 use denote.Ref.{now}
 use borrow.Author.Tests.{eq-eqb, ne-eqb}
 use Rattle.text.proofs.Same.{bare-empty}

@@ -1,7 +1,7 @@
 -- Each field is read where the one before it ends, and then the ends, if there are.
 use mir.ValLaws.{toZ-ofZ}
 use mir.Syntax.{w32}
-use Rattle.text.specs.Line.{unitOf}
+use Rattle.text.specs.Line.{unitLineOf}
 use borrow.Author.Needs.{needs}
 use Rattle.text.proofs.line.unit_in.Statement.{statement}
 use Rattle.text.proofs.line.unit_in.Tie as tie
@@ -40,7 +40,7 @@ ends-in-requires : tie.Need-ends-in-requires
 ends-in-requires c κs = search needs
 
 returns : tie.Need-returns
-unfolding unitOf
+unfolding unitLineOf
 returns c =
     let made = c .before in
     let t4 = made .before in

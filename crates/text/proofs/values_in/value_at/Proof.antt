@@ -2,7 +2,7 @@
 use mathlib.Core.Path.{_∙_}
 use native.Mathlib.Omega.{arith}
 use denote.Ref.{now}
-use Rattle.text.specs.Dates.{valueAt}
+use Rattle.text.specs.Dates.{wholeAt}
 use Rattle.text.proofs.Values.{nothing-there}
 use Rattle.text.proofs.Spaces.{field-none, field-fits, field-at}
 use borrow.Author.Needs.{needs}
@@ -13,7 +13,7 @@ none-requires : tie.Need-none-requires
 none-requires c κs = search needs
 
 returns : tie.Need-returns
-unfolding valueAt
+unfolding wholeAt
 returns c =
     let start = c .before .before .before in
     rw (c .none .ensures, field-none (now (start .args .text)) (start .args .start) (c .before .if1 .taken), nothing-there (start .args .form))
@@ -34,7 +34,7 @@ value-in-requires : tie.Need-value-in-requires
 value-in-requires c κs = search needs
 
 returns-2 : tie.Need-returns-2
-unfolding valueAt
+unfolding wholeAt
 returns-2 c =
     let read = c .before .before in
     let start = read .before .before .before in

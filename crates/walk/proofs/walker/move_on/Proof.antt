@@ -42,7 +42,7 @@ use denote.Triple.Table.{entered, cited}
 use denote.Triple.Walked.{says, Stays, stay-none, walkOf, goes-none, Walks, ends-at, walked, walk-meets}
 use denote.Exit.{yes}
 use denote.Triple.Clauses.{ensured, lasts}
-use Rattle.walk.specs.Stands.{Turned, turnReply, turnOf, standOf, standing, Moving}
+use Rattle.walk.specs.Stands.{Turned, turnReply, turnOf, standOf, walkerAt, Moving}
 use Rattle.walk.specs.declared.walker.Walker.{Walker}
 use Rattle.walk.specs.declared.walker.Moved.{Moved}
 use Rattle.walk.specs.declared.stand.Turn.{Turn}
@@ -109,7 +109,7 @@ module _ {M : Type 1} (𝓤 : URA M) (H : Heap 𝓤) (A : Atoms 𝓤) (W : Given
   on r = record { bytes = d .bytes; state = r .state; place = r .place; reply = r .reply }
 
   abbrev moving : Turned → Moving
-  moving t = record { reply = t .reply; walker = standing d (t .stand) }
+  moving t = record { reply = t .reply; walker = walkerAt d (t .stand) }
 
   abbrev at : Vals move-on.signature κs
   at = (mach ∷ [], tt)
