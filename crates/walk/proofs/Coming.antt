@@ -9,7 +9,7 @@ use lib.Dec.{eqb, ltb}
 use lib.ListN.{length}
 use Rattle.numbers.specs.Bytes.{byteAt}
 use Rattle.numbers.specs.Choice.{pick}
-use Rattle.terms.specs.Reply.{is, need, next}
+use Rattle.terms.specs.Reply.{Reply, is, need, next}
 use Rattle.terms.proofs.Replies.{need-is, next-need}
 use Rattle.records.specs.Layouts.{dayKind, dayLength, dayAt, dayLengthOf, groupKind, groupLength, endKind, endLength}
 use Rattle.records.specs.Reading.{headOf, dayHeadOf, groupHeadOf, endHeadOf}
