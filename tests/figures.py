@@ -193,12 +193,12 @@ OPEN_DAY = struct.pack(">BHBIHHIBHBB", 1, 9510, 96, RUN, AGE_LIMIT, 1440, 0, 0, 
 
 def block(units, made=RUN):
     """The bytes of a block with the units."""
-    bytes_ = b"\x02" + KEY + struct.pack(">BI", len(units), made)
+    records = b"\x02" + KEY + struct.pack(">BI", len(units), made)
     for number, u in enumerate(units):
         marks = struct.pack(">BHBBB", 3, number, u["cls"], u["coincide"], u["nominated"])
         n = u["n0"] if u["nominated"] else 0
-        bytes_ += marks + i32s(n, u["pc"], u["low"], u["high"]) + struct.pack(">I", RUN)
-    return bytes_
+        records += marks + i32s(n, u["pc"], u["low"], u["high"]) + struct.pack(">I", RUN)
+    return records
 
 
 def offered(units, made=RUN):
