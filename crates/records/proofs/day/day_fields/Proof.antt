@@ -13,6 +13,10 @@ use borrow.Author.Needs.{needs}
 use Rattle.records.proofs.day.day_fields.Statement.{statement}
 use Rattle.records.proofs.day.day_fields.Tie as tie
 
+-- what stood before, from where the quarters had passed
+abbrev entry : tie.After-known-told → tie.Start
+entry c = c .before .before .before .before .before
+
 -- the fields that every day record has are there
 there : (c : tie.Start) → dayLength ≤ length (now (c .args .s))
 there c = omega (arith, c .pre, day-least (dayAt (now (c .args .s)) 0))
@@ -37,16 +41,16 @@ returns c =
     rw (c .refusal .ensures, told) (field-out _ _ _ _ _ (sym (ap byteReply told) ∙ quarters-at .quarters-at .ensures))
 
 u16-at-requires : tie.Need-u16-at-requires
-u16-at-requires c κs = omega (arith, there (c .before .before .before .before .before))
+u16-at-requires c κs = omega (arith, there (entry c))
 
 u32-at-requires : tie.Need-u32-at-requires
-u32-at-requires c κs = omega (arith, there (c .before .before .before .before .before .before))
+u32-at-requires c κs = omega (arith, there (entry (c .before)))
 
 u16-at-requires-2 : tie.Need-u16-at-requires-2
-u16-at-requires-2 c κs = omega (arith, there (c .before .before .before .before .before .before .before))
+u16-at-requires-2 c κs = omega (arith, there (entry (c .before .before)))
 
 u16-at-requires-3 : tie.Need-u16-at-requires-3
-u16-at-requires-3 c κs = omega (arith, there (c .before .before .before .before .before .before .before .before))
+u16-at-requires-3 c κs = omega (arith, there (entry (c .before .before .before)))
 
 new-requires : tie.Need-new-requires
 new-requires c κs = search needs
