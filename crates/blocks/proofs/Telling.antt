@@ -1,7 +1,7 @@
 -- From the reading of a block's units to the answer: they pass with their columns, or one is refused, and so is the block; then 12, or its result.
 use Prim.Native.Nat.{ℕ, _<_}
-use mathlib.Core.Path.{_≡_, sym, ap, _∙_}
-use mathlib.Core.Bool.{true, false, false≢true}
+use mathlib.Core.Path.{_≡_, refl, sym, ap, _∙_}
+use mathlib.Core.Bool.{Bool, true, false, false≢true}
 use mathlib.Core.List.{List}
 use native.Mathlib.Omega.{arith}
 use lib.Dec.{leb}
@@ -11,9 +11,8 @@ use Rattle.numbers.specs.Bytes.{laidAt}
 use Rattle.numbers.specs.Column.{at}
 use Rattle.numbers.proofs.Columns.{column-length, column-at}
 use Rattle.terms.specs.Reply.{is, refused, need, next}
-use Rattle.terms.specs.Refusals.{answer, refusal}
 use Rattle.terms.specs.declared.refusal.Refusal.{Refusal}
-use Rattle.terms.proofs.Replies.{never, need-is, next-is}
+use Rattle.terms.proofs.Replies.{need-is, next-is}
 use Rattle.group.specs.Inner.{faultsOf, amountsPass}
 use Rattle.group.specs.Group.{marginsAt}
 use Rattle.group.proofs.Amounts.{amounts-all, amounts-only}
@@ -24,15 +23,14 @@ use Rattle.records.specs.Reading.{unitIn, judgedBy, unitsOf}
 use Rattle.records.specs.Decoding.{unitN0}
 use Rattle.writers.specs.Results.{resultLength}
 use Rattle.blocks.specs.declared.check.Block.{Block}
-use Rattle.blocks.specs.declared.decode.Told.{Told}
+use Rattle.blocks.specs.declared.check.BlockAnswer.{BlockAnswer}
 use Rattle.blocks.specs.declared.check.BlockAnswer.the-variants as B
 use Rattle.blocks.specs.declared.decode.Reading.{Reading}
-use Rattle.blocks.specs.declared.decode.Units.{Units}
 use Rattle.blocks.specs.Blocks.{blockCount, blockResult}
-use Rattle.blocks.specs.Checking.{blockOf, blockUnitsOf}
-use Rattle.blocks.specs.Inner.{Begun, Decoded, Amounts, unitsAt, UnitsRead, UnitsTold, BlockTold, unitsTaken, blockAfter, Taking}
+use Rattle.blocks.specs.Checking.{blockReply, blockUnitsOf}
+use Rattle.blocks.specs.Inner.{Begun, Passed, Decoded, Amounts, unitsAt, UnitsRead, UnitsPassed, ReadEnds, unitsTaken, blockAfter, Taking}
 use Rattle.blocks.proofs.Units.{amounts-passed}
-use Rattle.blocks.proofs.ByUnits.{units-refuse, units-pass, made}
+use Rattle.blocks.proofs.ByUnits.{Made, made}
 
 -- the columns that were read are looked at as the units themselves
 module _ {s : List ℕ} {p : ℤ} {class taken : List ℕ} {n0 down up : List ℤ} (d : Decoded s p class taken n0 down up) where
@@ -56,12 +54,6 @@ module _ {s : List ℕ} {p : ℤ} {class taken : List ℕ} {n0 down up : List �
   pub unlooked : ((i : ℕ) → i < blockCount s → Amounts s i) → amountsPass n0 down up ≡ true
   unlooked all = amounts-only n0 down up (λ i l. entry i (omega (arith, start-count)) ∙ all i (omega (arith, start-count)))
 
--- units read with a look at all: they pass, or one of them does not
-pub record UnitsPassed (s : List ℕ) (day : DayRecord) (r : Reading) (class taken : List ℕ) (n0 down up : List ℤ) : Type 0 where
-  pub decoded : r .whole ≡ true → Decoded s (r .p .0) class taken n0 down up
-  pub ends : r .whole ≡ true → unitsAt s day ≡ is (r .end)
-  pub fails : r .whole ≡ false → (end : ℕ) → unitsAt s day ≡ is end → ⊥
-
 module _ {s : List ℕ} {day : DayRecord} {r : Reading} {class taken : List ℕ} {n0 down up : List ℤ} (b : Begun s) (u : UnitsRead s day r class taken n0 down up) where
   -- the reading was broken off, or came to its end and all pass, or not
   pub pass-broken : {q : Reading} → r .whole ≡ false → q .whole ≡ false → UnitsPassed s day q class taken n0 down up
@@ -80,49 +72,52 @@ module _ {s : List ℕ} {day : DayRecord} {r : Reading} {class taken : List ℕ}
         fails = λ _ end k. absurd (false≢true (sym e ∙ unlooked (u .decoded w) (amounts-passed s day b k)));
       }
 
-module _ {s : List ℕ} {day : DayRecord} {r : Reading} {class taken : List ℕ} {n0 down up : List ℤ} (u : UnitsPassed s day r class taken n0 down up) where
-  pub told-end : {q : Units} → r .whole ≡ true → answer (q .end) ≡ is (r .end) → q .p ≡ r .p → UnitsTold s day q class taken n0 down up
-  told-end w e p = record { replied = e ∙ sym (u .ends w); decoded = λ end _. rw p (u .decoded w) }
-
-  pub told-refusal : {q : Units} → r .whole ≡ false → answer (q .end) ≡ unitsAt s day → UnitsTold s day q class taken n0 down up
-  told-refusal w e = record { replied = e; decoded = λ end k. absurd (u .fails w end (sym e ∙ k)) }
-
--- a block by its units
+-- a block by a reading of its units
 module _ (s : List ℕ) (group : GroupRecord) (day : DayRecord) (b : Begun s) (g : group ≡ groupAt s 0) {by : DayRecord} (j : by ≡ judgedBy group day) where
   same-count : unitsOf s groupLength 0 (judgedBy group day) (group .count) ≡ unitsAt s by
   same-count = ap (λ (x : GroupRecord). unitsOf s groupLength 0 (judgedBy group day) (x .count)) g ∙ ap (unitsAt s) (sym j)
 
-  module _ {r : Units} {class taken : List ℕ} {n0 down up : List ℤ} (u : UnitsTold s by r class taken n0 down up) where
-    pub block-refused : {q : Told} {f : Refusal} → answer (r .end) ≡ refusal f → q .block ≡ B.Refused f → BlockTold s group day q class taken n0 down up
-    block-refused e k =
-        record {
-          replied = rw k (sym (units-refuse s group day (same-count ∙ sym (u .replied) ∙ e)));
-          decoded = λ block. rw k (λ h. never h);
-          passed = λ block. rw k (λ h. never h);
-        }
+  module _ {r : Reading} {class taken : List ℕ} {n0 down up : List ℤ} (u : UnitsPassed s by r class taken n0 down up) where
+    pub read-ends : ReadEnds s group day r
+    read-ends = record { ends = λ w. same-count ∙ u .ends w }
 
-    pub block-passed : {q : Told} {end : ℕ} → answer (r .end) ≡ is end → q .block ≡ B.Is (blockOf group end) → q .p ≡ r .p → BlockTold s group day q class taken n0 down up
-    block-passed {end = end} e k p =
-        record {
-          replied = rw k (sym (units-pass s group day (same-count ∙ sym (u .replied) ∙ e)));
-          decoded = λ block _. rw p (u .decoded end e);
-          passed = λ block _. record { day = by; end = end; long = b .long; few = b .few; units = sym (u .replied) ∙ e };
-        }
+    -- a block comes of units that were read to their end
+    module _ {block : Block} (e : is block ≡ blockUnitsOf s group day) where
+      came : Made s group day block
+      came = made s group day (sym e)
+
+      passed : unitsAt s by ≡ is (came .end)
+      passed = sym same-count ∙ came .passed
+
+      whole : r .whole ≡ true
+      whole = go (r .whole) refl
+        where
+          go : (x : Bool) → r .whole ≡ x → r .whole ≡ true
+          go true w = w
+          go false w = absurd (u .fails w (came .end) passed)
+
+      pub read-decoded : Decoded s (r .p .0) class taken n0 down up
+      read-decoded = u .decoded whole
+
+      pub read-passed : Passed s
+      read-passed = record { day = by; end = came .end; long = b .long; few = b .few; units = passed }
 
 -- and then 12, or the result
 module _ (s : List ℕ) (group : GroupRecord) (day : DayRecord) (entry : List ℕ) where
-  pub taking-refused : {f : Refusal} → refusal f ≡ blockUnitsOf s group day → Taking s group day entry (B.Refused f) entry
+  pub taking-refused : {r : BlockAnswer} {f : Refusal} → r ≡ B.Refused f → blockReply r ≡ blockUnitsOf s group day → Taking s group day entry r entry
   unfolding unitsTaken next blockAfter
-  taking-refused e = record { replied = rw (← e); room = rw (← e) }
+  taking-refused k h =
+      let e = sym (ap blockReply k) ∙ h in
+      rw k (record { replied = rw (← e); room = rw (← e) })
 
   module _ {block : Block} (e : is block ≡ blockUnitsOf s group day) where
-    pub taking-small : {f : Refusal} → refusal {A = Block} f ≡ refused 12 0 → leb (block .written) (length entry) ≡ false → Taking s group day entry (B.Refused f) entry
+    pub taking-small : {r : BlockAnswer} → blockReply r ≡ refused 12 0 → leb (block .written) (length entry) ≡ false → Taking s group day entry r entry
     unfolding unitsTaken next need blockAfter
     taking-small h t = record { replied = h ∙ rw (← e, t); room = rw (← e, t) }
 
-    pub taking-done : {exit : List ℕ} → leb (block .written) (length entry) ≡ true → exit ≡ laidAt entry 0 (blockResult s) → Taking s group day entry (B.Is block) exit
+    pub taking-done : {r : BlockAnswer} {exit : List ℕ} → blockReply r ≡ is block → leb (block .written) (length entry) ≡ true → exit ≡ laidAt entry 0 (blockResult s) → Taking s group day entry r exit
     unfolding unitsTaken next need blockAfter
-    taking-done t h = record { replied = rw (← e, t); room = h ∙ rw (← e, t) }
+    taking-done k t h = record { replied = k ∙ rw (← e, t); room = h ∙ rw (← e, t) }
 
     -- a block's result is as long as its count says
     pub taken-long : group ≡ groupAt s 0 → block .written ≡ resultLength (blockCount s)

@@ -10,7 +10,6 @@ use Rattle.numbers.specs.Bytes.{laidAt}
 use Rattle.numbers.specs.Range.{Within}
 use Rattle.numbers.specs.Sum.{sumZ, bit}
 use Rattle.terms.specs.Reply.{Reply, is, refused, need, next}
-use Rattle.terms.specs.Refusals.{answer}
 use Rattle.terms.specs.Checks.{mostUnits}
 use Rattle.group.specs.Group.{position}
 use Rattle.group.specs.Inner.{CutOff, faultsOf}
@@ -19,7 +18,7 @@ use Rattle.records.specs.declared.day.DayRecord.{DayRecord}
 use Rattle.records.specs.declared.group.GroupRecord.{GroupRecord}
 use Rattle.records.specs.declared.unit.UnitRecord.{UnitRecord}
 use Rattle.records.specs.Layouts.{groupLength, unitResultLength, unitResultBytes, marginsOf}
-use Rattle.records.specs.Reading.{unitEnd, unitPlace, unitIn, unitsOf}
+use Rattle.records.specs.Reading.{unitEnd, unitPlace, unitIn, judgedBy, unitsOf}
 use Rattle.records.specs.Decoding.{unitN0, unitImplicit, classesIn, takenIn, n0In, pcIn, stepDownIn, stepUpIn}
 use Rattle.records.specs.Inner.{isWhole, marksPass}
 use Rattle.writers.specs.Results.{resultFrom, resultLength}
@@ -27,8 +26,6 @@ use Rattle.writers.specs.Runs.{run}
 use Rattle.blocks.specs.declared.check.Block.{Block}
 use Rattle.blocks.specs.declared.check.BlockAnswer.{BlockAnswer}
 use Rattle.blocks.specs.declared.decode.Reading.{Reading}
-use Rattle.blocks.specs.declared.decode.Units.{Units}
-use Rattle.blocks.specs.declared.decode.Told.{Told}
 use Rattle.blocks.specs.Checking.{blockReply, blockUnitsOf}
 use Rattle.blocks.specs.Blocks.{blockCount, blockGroup, blockResult}
 
@@ -100,16 +97,15 @@ pub record UnitsRead (s : List ℕ) (day : DayRecord) (r : Reading) (class taken
   pub ends : r .whole ≡ true → ((i : ℕ) → i < blockCount s → Amounts s i) → unitsAt s day ≡ is (r .end)
   pub fails : r .whole ≡ false → (end : ℕ) → unitsAt s day ≡ is end → ⊥
 
--- the units of a block, and their columns where they pass
-pub record UnitsTold (s : List ℕ) (day : DayRecord) (r : Units) (class taken : List ℕ) (n0 down up : List ℤ) : Type 0 where
-  pub replied : answer (r .end) ≡ unitsAt s day
-  pub decoded : (end : ℕ) → answer (r .end) ≡ is end → Decoded s (r .p .0) class taken n0 down up
+-- units read with a look at all: they pass, or one of them does not
+pub record UnitsPassed (s : List ℕ) (day : DayRecord) (r : Reading) (class taken : List ℕ) (n0 down up : List ℤ) : Type 0 where
+  pub decoded : r .whole ≡ true → Decoded s (r .p .0) class taken n0 down up
+  pub ends : r .whole ≡ true → unitsAt s day ≡ is (r .end)
+  pub fails : r .whole ≡ false → (end : ℕ) → unitsAt s day ≡ is end → ⊥
 
--- the same of a block
-pub record BlockTold (s : List ℕ) (group : GroupRecord) (day : DayRecord) (r : Told) (class taken : List ℕ) (n0 down up : List ℤ) : Type 0 where
-  pub replied : blockReply (r .block) ≡ blockUnitsOf s group day
-  pub decoded : (block : Block) → blockReply (r .block) ≡ is block → Decoded s (r .p .0) class taken n0 down up
-  pub passed : (block : Block) → blockReply (r .block) ≡ is block → Passed s
+-- a reading that came to its end tells where a block's units end
+pub record ReadEnds (s : List ℕ) (group : GroupRecord) (day : DayRecord) (read : Reading) : Type 0 where
+  pub ends : read .whole ≡ true → unitsOf s groupLength 0 (judgedBy group day) (group .count) ≡ is (read .end)
 
 -- a block's units, then 12, and its result in the room
 unfoldable pub unitsTaken : List ℕ → GroupRecord → DayRecord → ℕ → Reply Block

@@ -1,14 +1,19 @@
 // The units of a block are checked: the first refusal, or what would be used and written.
 ghost use mathlib.Core.Path.{_≡_};
-ghost use Rattle.records.specs.Layouts.{groupAt};
+ghost use Rattle.terms.specs.Refusals.{answer};
+ghost use Rattle.records.specs.Layouts.{groupLength, groupAt};
+ghost use Rattle.records.specs.Reading.{judgedBy, unitsOf};
 ghost use Rattle.blocks.specs.Checking.{blockOf, blockReply, blockRefusal, blockUnitsOf};
-ghost use Rattle.blocks.specs.Inner.{Begun};
-use crate::decode::block_units;
+ghost use Rattle.blocks.specs.Inner.{Begun, ReadEnds};
+use crate::decode::Reading;
+use crate::decode::units_into;
 use records::day::DayRecord;
 use records::group::GroupRecord;
 use records::group_result::GroupResult;
 use records::key::Key;
 use records::unit_result::UnitResult;
+use records::units::units_from;
+use terms::refusal::Answer;
 use terms::refusal::Refusal;
 use terms::refusal::no_refusal;
 
@@ -54,6 +59,34 @@ impl BlockAnswer {
     }
 }
 
+// Where the units of a block end, by a reading of them, or the first refusal: which field is wrong is asked only once one is.
+fn units_end(s: &[u8], group: GroupRecord, day: DayRecord, read: Reading) -> Answer
+    requires { ⌜ ReadEnds (now s) group day read ⌝ }
+    ensures { λ r. ⌜ answer r ≡ unitsOf (now (s .entry)) groupLength 0 (judgedBy group day) (group .count) ⌝ }
+{
+    if read.whole {
+        return Answer::Is(read.end);
+    }
+    units_from(
+        s,
+        GroupRecord::LEN,
+        group.count as usize,
+        group.judged_by(day),
+    )
+}
+
+// A block by a reading of its units. What is still to refuse once they pass stands here, after them: 12 comes last.
+pub fn block_read(s: &[u8], group: GroupRecord, day: DayRecord, read: Reading) -> BlockAnswer
+    requires { ⌜ ReadEnds (now s) group day read ⌝ }
+    ensures { λ r. ⌜ blockReply r ≡ blockUnitsOf (now (s .entry)) group day ⌝ }
+{
+    let u = units_end(s, group, day, read);
+    let Answer::Is(end) = u else {
+        return BlockAnswer::Refused(u.refusal());
+    };
+    BlockAnswer::Is(Block::of(group, end))
+}
+
 // The units of a block, checked, with columns that are lent to that alone.
 pub fn units_checked(s: &[u8], group: GroupRecord, day: DayRecord) -> BlockAnswer
     requires { ⌜ Begun (now s) × (group ≡ groupAt (now s) 0) ⌝ }
@@ -65,15 +98,14 @@ pub fn units_checked(s: &[u8], group: GroupRecord, day: DayRecord) -> BlockAnswe
     let mut n0 = [0i32; 64];
     let mut step_down = [0i32; 64];
     let mut step_up = [0i32; 64];
-    let told = block_units(
+    let read = units_into(
         s,
-        group,
-        day,
+        group.judged_by(day),
         &mut class[..n],
         &mut taken[..n],
         &mut n0[..n],
         &mut step_down[..n],
         &mut step_up[..n],
     );
-    told.block
+    block_read(s, group, day, read)
 }

@@ -5,12 +5,9 @@ ghost use Prim.Native.Nat.{_≤_, _<_};
 ghost use lib.IntN.{pos};
 ghost use lib.ListN.{length};
 ghost use Rattle.terms.specs.Checks.{mostUnits};
-ghost use Rattle.records.specs.Layouts.{groupAt};
 ghost use Rattle.records.specs.Inner.{isPlain};
-ghost use Rattle.blocks.specs.Inner.{Begun, UnitRoom, TakenIn, ReadTo, UnitsRead, UnitsTold, BlockTold};
+ghost use Rattle.blocks.specs.Inner.{Begun, UnitRoom, TakenIn, ReadTo, UnitsRead, UnitsPassed};
 ghost use Rattle.blocks.specs.Blocks.{blockCount};
-use crate::check::Block;
-use crate::check::BlockAnswer;
 use group::check::amounts_pass;
 use records::day::DayRecord;
 use records::faults::marks_pass;
@@ -20,17 +17,15 @@ use records::unit::body_fields;
 use records::unit::interval_fields;
 use records::units::is_interval;
 use records::units::is_plain;
-use records::units::units_from;
 use terms::quantity::Position;
 use terms::quantity::considered;
 use terms::quantity::is_implicit;
-use terms::refusal::Answer;
 
 // A reading of units: whether each passed in what it was asked, and then P and where they end.
-struct Reading {
-    whole: bool,
-    p: Position,
-    end: usize,
+pub struct Reading {
+    pub whole: bool,
+    pub p: Position,
+    pub end: usize,
 }
 
 // A reading that a unit broke off.
@@ -177,14 +172,8 @@ fn read_into(
     }
 }
 
-// The units of a block: P, and where they end, or the first refusal.
-struct Units {
-    p: Position,
-    end: Answer,
-}
-
-// The units of a block, read, and then a look at all nominations and margins. Which field is wrong is asked only once one is.
-fn units_into(
+// The units of a block, read, and then a look at all nominations and margins.
+pub fn units_into(
     s: &[u8],
     day: DayRecord,
     class: &mut [u8],
@@ -192,57 +181,13 @@ fn units_into(
     n0: &mut [i32],
     step_down: &mut [i32],
     step_up: &mut [i32],
-) -> Units
+) -> Reading
     requires { ⌜ Begun (now s) × UnitRoom (blockCount (now s)) (now class) (now taken) (now n0) (now «step_down») (now «step_up») ⌝ }
-    ensures { λ r. ⌜ UnitsTold (now (s .entry)) day r (now (class .exit)) (now (taken .exit)) (now (n0 .exit)) (now («step_down» .exit)) (now («step_up» .exit)) ⌝ }
+    ensures { λ r. ⌜ UnitsPassed (now (s .entry)) day r (now (class .exit)) (now (taken .exit)) (now (n0 .exit)) (now («step_down» .exit)) (now («step_up» .exit)) ⌝ }
 {
     let read = read_into(s, day, class, taken, n0, step_down, step_up);
-    let p = read.p;
     if read.whole && amounts_pass(n0, step_down, step_up) {
-        return Units {
-            p,
-            end: Answer::Is(read.end),
-        };
+        return read;
     }
-    Units {
-        p: Position(0),
-        end: units_from(s, GroupRecord::LEN, n0.len(), day),
-    }
-}
-
-// A block whose group record passed: P, and the block or the first refusal.
-pub struct Told {
-    pub p: Position,
-    pub block: BlockAnswer,
-}
-
-// The units of a block, checked and read into lent columns. What is still to refuse once they pass stands here, after them: 12 comes last.
-pub fn block_units(
-    s: &[u8],
-    group: GroupRecord,
-    day: DayRecord,
-    class: &mut [u8],
-    taken: &mut [u32],
-    n0: &mut [i32],
-    step_down: &mut [i32],
-    step_up: &mut [i32],
-) -> Told
-    requires { ⌜ Begun (now s) × (group ≡ groupAt (now s) 0) ⌝ }
-    requires { ⌜ UnitRoom (blockCount (now s)) (now class) (now taken) (now n0) (now «step_down») (now «step_up») ⌝ }
-    ensures { λ r. ⌜ BlockTold (now (s .entry)) group day r (now (class .exit)) (now (taken .exit)) (now (n0 .exit)) (now («step_down» .exit)) (now («step_up» .exit)) ⌝ }
-{
-    let by = group.judged_by(day);
-    let units = units_into(s, by, class, taken, n0, step_down, step_up);
-    let p = units.p;
-    let u = units.end;
-    let Answer::Is(end) = u else {
-        return Told {
-            p,
-            block: BlockAnswer::Refused(u.refusal()),
-        };
-    };
-    Told {
-        p,
-        block: BlockAnswer::Is(Block::of(group, end)),
-    }
+    broken_off()
 }

@@ -7,9 +7,12 @@ ghost use Rattle.group.specs.Inner.{zeros};
 ghost use Rattle.records.specs.Layouts.{groupAt};
 ghost use Rattle.writers.specs.Results.{resultLength};
 ghost use Rattle.blocks.specs.Blocks.{blockResult, blockCount};
+ghost use Rattle.terms.specs.Reply.{refused};
+ghost use Rattle.blocks.specs.Checking.{blockReply};
 ghost use Rattle.blocks.specs.Inner.{Begun, Passed, UnitRoom, Decoded, Cutting, Taking};
 use crate::check::BlockAnswer;
-use crate::decode::block_units;
+use crate::check::block_read;
+use crate::decode::units_into;
 use crate::lay::lay_group_result;
 use crate::lay::lay_unit_results;
 use group::band::direction;
@@ -67,6 +70,15 @@ fn write_passed(
     write_rest(s, p, cut, room, why, n0, n1, losses, step_up, step_down);
 }
 
+fn no_room() -> BlockAnswer
+    ensures { λ r. ⌜ blockReply r ≡ refused 12 0 ⌝ }
+{
+    BlockAnswer::Refused(Refusal {
+        why: Why::Room,
+        place: 0,
+    })
+}
+
 // A block is checked, then the room; then it is judged and its result written, by way of lent columns.
 fn take_through(
     s: &[u8],
@@ -86,20 +98,18 @@ fn take_through(
     requires { ⌜ (length (now n1) ≡ blockCount (now s)) × (now losses ≡ zeros (blockCount (now s))) ⌝ }
     ensures { λ r. ⌜ Taking (now (s .entry)) group day (now (room .entry)) r (now (room .exit)) ⌝ }
 {
-    let told = block_units(s, group, day, class, taken, n0, step_down, step_up);
-    let b = told.block;
+    let by = group.judged_by(day);
+    let read = units_into(s, by, class, taken, n0, step_down, step_up);
+    let b = block_read(s, group, day, read);
     let BlockAnswer::Is(block) = b else {
-        return BlockAnswer::Refused(b.refusal());
+        return b;
     };
     if room.len() < block.written {
-        return BlockAnswer::Refused(Refusal {
-            why: Why::Room,
-            place: 0,
-        });
+        return no_room();
     }
     write_passed(
         s,
-        told.p,
+        read.p,
         room,
         class,
         taken,
@@ -109,7 +119,7 @@ fn take_through(
         step_down,
         step_up,
     );
-    BlockAnswer::Is(block)
+    b
 }
 
 // The units of a block whose group record passed, and then 12; its result is written at the front of the room. Its columns take 1,600 bytes of stack.

@@ -1,20 +1,12 @@
--- Units that pass end where the reading came to; of others the exact check says what is wrong.
+-- Units that pass end where the reading came to; of others it says no more.
 use mathlib.Core.Bool.{false}
 use mathlib.Core.Logic.{⊎-elim}
-use mathlib.Core.Path.{refl, sym, ap, _∙_}
-use denote.Ref.{now}
-use lib.IntN.{pos}
-use Rattle.records.specs.Layouts.{groupLength}
-use Rattle.records.specs.Reading.{unitsOf}
+use mathlib.Core.Path.{_≡_, sym, ap, _∙_}
 use Rattle.blocks.specs.declared.decode.Reading.{Reading}
-use Rattle.blocks.proofs.Telling.{pass-broken, pass-all, pass-not, told-end, told-refusal}
+use Rattle.blocks.proofs.Telling.{pass-broken, pass-all, pass-not}
 use borrow.Author.Needs.{needs}
 use Rattle.blocks.proofs.decode.units_into.Statement.{statement}
 use Rattle.blocks.proofs.decode.units_into.Tie as tie
-
--- a reading that says of units that they do not pass
-abbrev broken : Reading
-broken = record { whole = false; p = record { 0 = pos 0 }; end = 0 }
 
 -- where the units were read, and what stood before
 abbrev read : tie.After-step-up → tie.After-read-into
@@ -33,56 +25,54 @@ amounts-pass-requires : tie.Need-amounts-pass-requires
 amounts-pass-requires c κs = search needs
 
 same-length : tie.Need-same-length
-same-length c = read (passing c .before .before) .read-into .kept .1 .1 .0
+same-length c = read (passing c .before) .read-into .kept .1 .1 .0
 
 same-length-2 : tie.Need-same-length-2
-same-length-2 c = read (passing c .before .before) .read-into .kept .1 .1 .1 .0
+same-length-2 c = read (passing c .before) .read-into .kept .1 .1 .1 .0
 
 same-length-3 : tie.Need-same-length-3
-same-length-3 c = read (passing c .before .before) .read-into .kept .1 .1 .1 .1 .0
+same-length-3 c = read (passing c .before) .read-into .kept .1 .1 .1 .1 .0
 
 same-length-4 : tie.Need-same-length-4
-same-length-4 c = read (passing c .before .before) .read-into .kept .1 .1 .1 .1 .1 .0
+same-length-4 c = read (passing c .before) .read-into .kept .1 .1 .1 .1 .1 .0
 
 same-length-5 : tie.Need-same-length-5
-same-length-5 c = read (passing c .before .before) .read-into .kept .1 .1 .1 .1 .1 .1 .0
+same-length-5 c = read (passing c .before) .read-into .kept .1 .1 .1 .1 .1 .1 .0
 
 returns : tie.Need-returns
 returns c =
     let test = passing c in
-    let units = read (test .before .before) in
-    told-end (pass-all (entry units .pre .0) (units .read-into .ensures) (test .if1 .taken) (sym (c .before .amounts-pass .ensures) ∙ c .if2 .taken)) (test .if1 .taken) refl refl
+    let units = read (test .before) in
+    pass-all (entry units .pre .0) (units .read-into .ensures) (test .if1 .taken) (sym (c .before .amounts-pass .ensures) ∙ c .if2 .taken)
 
-units-from-requires : tie.Need-units-from-requires
-units-from-requires c κs = search needs
+broken-off-requires : tie.Need-broken-off-requires
+broken-off-requires c κs = search needs
 
 same-length-6 : tie.Need-same-length-6
-same-length-6 c = read (c .before .before .before) .read-into .kept .1 .1 .0
+same-length-6 c = read (c .before .before) .read-into .kept .1 .1 .0
 
 same-length-7 : tie.Need-same-length-7
-same-length-7 c = read (c .before .before .before) .read-into .kept .1 .1 .1 .0
+same-length-7 c = read (c .before .before) .read-into .kept .1 .1 .1 .0
 
 same-length-8 : tie.Need-same-length-8
-same-length-8 c = read (c .before .before .before) .read-into .kept .1 .1 .1 .1 .0
+same-length-8 c = read (c .before .before) .read-into .kept .1 .1 .1 .1 .0
 
 same-length-9 : tie.Need-same-length-9
-same-length-9 c = read (c .before .before .before) .read-into .kept .1 .1 .1 .1 .1 .0
+same-length-9 c = read (c .before .before) .read-into .kept .1 .1 .1 .1 .1 .0
 
 same-length-10 : tie.Need-same-length-10
-same-length-10 c = read (c .before .before .before) .read-into .kept .1 .1 .1 .1 .1 .1 .0
+same-length-10 c = read (c .before .before) .read-into .kept .1 .1 .1 .1 .1 .1 .0
 
 returns-2 : tie.Need-returns-2
 returns-2 c =
     let met = c .before in
-    let units = read (met .before .before) in
+    let units = read (met .before) in
     let start = entry units in
-    let x = start .args in
-    let n = same-length-8 c ∙ start .pre .1 .starts in
-    let e = c .units-from .ensures ∙ ap (unitsOf (now (x .s)) groupLength 0 (x .day)) n in
     let u = units .read-into .ensures in
+    let off : c .broken-off .result .whole ≡ false = ap (λ (r : Reading). r .whole) (c .broken-off .ensures) in
     ⊎-elim
-    (λ w. told-refusal (pass-not (start .pre .0) u {q = broken} (w .0 .taken) (sym (w .4 .ensures) ∙ w .5 .left) refl) refl e)
-    (λ w. told-refusal (pass-broken (start .pre .0) u {q = broken} (w .left) refl) refl e)
+    (λ w. pass-not (start .pre .0) u (w .0 .taken) (sym (w .4 .ensures) ∙ w .5 .left) off)
+    (λ w. pass-broken (start .pre .0) u (w .left) off)
     (met .if1 .came)
 
 pub units-into-spec : {M : Type 1} → statement M
@@ -97,7 +87,7 @@ units-into-spec =
     same-length-4
     same-length-5
     returns
-    units-from-requires
+    broken-off-requires
     same-length-6
     same-length-7
     same-length-8
