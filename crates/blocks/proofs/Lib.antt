@@ -1,8 +1,6 @@
 -- Laws of a block.
-pub mod Filling
 pub mod Laying
 pub mod Sound
-pub mod Units
 pub mod ByUnits
 pub mod Telling
 pub mod Passing

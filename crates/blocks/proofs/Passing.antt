@@ -33,10 +33,12 @@ use Rattle.records.specs.Decoding.{unitImplicit, takenIn}
 use Rattle.writers.specs.Results.{unitResultsBytes, resultBytes, resultLength}
 use Rattle.writers.proofs.Runs.{run-same}
 use Rattle.writers.proofs.Lengths.{length-group-result, length-results}
-use Rattle.blocks.specs.Blocks.{groupResult, groupTold, unitResults, blockCount, blockGroup, resultIn, blockResult}
-use Rattle.blocks.specs.Inner.{Passed, Decoded, Cutting, laidUnits, Laying}
+use Rattle.decode.specs.Block.{blockCount}
+use Rattle.blocks.specs.Blocks.{groupResult, groupTold, unitResults, blockGroup, resultIn, blockResult}
+use Rattle.decode.specs.Inner.{Passed, Decoded}
+use Rattle.blocks.specs.Inner.{Cutting, laidUnits, Laying}
 use Rattle.blocks.proofs.Sound.{units-accepted}
-use Rattle.blocks.proofs.Units.{unit-there}
+use Rattle.decode.proofs.Units.{unit-there}
 
 bit-small : (n : ℕ) (f : ℕ → Bool) (i : ℕ) → getD (column n (λ k. bit (f k))) i 0 ≤ 1
 bit-small n f i = go (decLt i n)

@@ -24,7 +24,8 @@ use Rattle.records.specs.Decoding.{unitN0, unitImplicit, takenIn}
 use Rattle.writers.specs.Results.{resultOf, resultFrom, resultLength}
 use Rattle.writers.specs.Trips.{HeldGroupResult, HeldUnitResult}
 use Rattle.writers.proofs.Back.{results-back}
-use Rattle.blocks.specs.Blocks.{groupIn, groupResult, groupTold, unitResults, resultIn, blockCount, blockGroup, blockResult, unitResult}
+use Rattle.decode.specs.Block.{blockCount}
+use Rattle.blocks.specs.Blocks.{groupIn, groupResult, groupTold, unitResults, resultIn, blockGroup, blockResult, unitResult}
 
 -- what an accepted group is judged by
 judged : (g : Group) → Accepted g → Judged (position g) (g .n0) (g .stepDown) (g .stepUp) (g .class) (g .n0)

@@ -15,6 +15,7 @@ use Rattle.records.specs.Layouts.{groupAt, marginsOf}
 use Rattle.records.specs.Reading.{keyOf, unitIn}
 use Rattle.records.specs.Decoding.{unitN0, unitImplicit, numbersIn, classesIn, takenIn, n0In, pcIn, stepDownIn, stepUpIn}
 use Rattle.writers.specs.Results.{Results, results, resultBytes}
+use Rattle.decode.specs.Block.{blockCount}
 
 -- the first so many units of a block as the columns of a group
 abbrev pub groupIn : List ℕ → ℕ → Group
@@ -41,12 +42,9 @@ groupResult group sums =
       balance = sums .balance;
     }
 
--- a block is one group record and its units: its key, how many units it has, and its group
+-- the key of a block, and its group
 abbrev pub blockKey : List ℕ → Key
 blockKey s = keyOf (groupAt s 0)
-
-abbrev pub blockCount : List ℕ → ℕ
-blockCount s = groupAt s 0 .count
 
 abbrev pub blockGroup : List ℕ → Group
 blockGroup s = groupIn s (blockCount s)

@@ -4,9 +4,10 @@ ghost use Rattle.terms.specs.Refusals.{answer};
 ghost use Rattle.records.specs.Layouts.{groupLength, groupAt};
 ghost use Rattle.records.specs.Reading.{judgedBy, unitsOf};
 ghost use Rattle.blocks.specs.Checking.{blockOf, blockReply, blockRefusal, blockUnitsOf};
-ghost use Rattle.blocks.specs.Inner.{Begun, ReadEnds};
-use crate::decode::Reading;
-use crate::decode::units_into;
+ghost use Rattle.decode.specs.Inner.{Begun};
+ghost use Rattle.blocks.specs.Inner.{ReadEnds};
+use decode::Reading;
+use decode::units_into;
 use records::day::DayRecord;
 use records::group::GroupRecord;
 use records::group_result::GroupResult;
@@ -98,9 +99,10 @@ pub fn units_checked(s: &[u8], group: GroupRecord, day: DayRecord) -> BlockAnswe
     let mut n0 = [0i32; 64];
     let mut step_down = [0i32; 64];
     let mut step_up = [0i32; 64];
+    let by = group.judged_by(day);
     let read = units_into(
         s,
-        group.judged_by(day),
+        by,
         &mut class[..n],
         &mut taken[..n],
         &mut n0[..n],

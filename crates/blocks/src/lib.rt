@@ -1,5 +1,4 @@
 // A block: its units checked and read into columns, judged by the steps, and its result laid.
 pub mod check;
-mod decode;
 mod lay;
 pub mod result;

@@ -25,7 +25,7 @@ use Rattle.walk.specs.declared.table.Role.the-variants.{Opens, Block, Closes}
 use Rattle.walk.specs.declared.table.Head.{Head}
 use Rattle.walk.specs.Table.{roleOf}
 use Rattle.walk.proofs.Coming.{lengthIn, block-open, headAs, own-head}
-use Rattle.blocks.specs.Blocks.{blockCount}
+use Rattle.decode.specs.Block.{blockCount}
 use Rattle.day.specs.declared.value.Day.{Day}
 use Rattle.day.specs.declared.offer.Step.{Step}
 use Rattle.day.specs.declared.offer.Offered.the-variants as O

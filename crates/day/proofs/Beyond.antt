@@ -34,7 +34,8 @@ use Rattle.day.specs.declared.offer.Step.{Step}
 use Rattle.day.specs.Days.{opened, counted, closed}
 use Rattle.blocks.proofs.ByUnits.{made, block-alike}
 use Rattle.day.specs.Checking.{blockFieldsOf}
-use Rattle.blocks.specs.Blocks.{resultIn, blockCount, blockResult}
+use Rattle.decode.specs.Block.{blockCount}
+use Rattle.blocks.specs.Blocks.{resultIn, blockResult}
 use Rattle.day.specs.Offers.{headFor, dayTaken, blockTaken, endTaken, taken, offerOf, writtenOf}
 use Rattle.day.proofs.ByKind.{head-came}
 use Rattle.day.proofs.Read.{read}

@@ -30,7 +30,8 @@ use Rattle.day.specs.declared.offer.Step.{Step}
 use Rattle.day.specs.declared.offer.Offered.{Offered}
 use Rattle.day.specs.declared.offer.Offered.the-variants as O
 use Rattle.day.specs.Days.{counted}
-use Rattle.blocks.specs.Blocks.{groupTold, blockKey, blockCount, blockGroup, blockResult, unitResult}
+use Rattle.decode.specs.Block.{blockCount}
+use Rattle.blocks.specs.Blocks.{groupTold, blockKey, blockGroup, blockResult, unitResult}
 use Rattle.day.specs.Offers.{dayAfter, roomAfter, writtenOf, Offering, Offers}
 use Rattle.day.specs.Answered.{Sayable, value, reason, One}
 use Rattle.day.proofs.Taking.{refuses, takes}

@@ -26,7 +26,8 @@ use Rattle.day.specs.declared.offer.Offered.the-variants as O
 use Rattle.day.specs.Days.{opened, counted, closed}
 use Rattle.blocks.specs.Checking.{blockOf}
 use Rattle.day.specs.Checking.{blockFieldsOf}
-use Rattle.blocks.specs.Blocks.{blockKey, blockCount, blockResult}
+use Rattle.decode.specs.Block.{blockCount}
+use Rattle.blocks.specs.Blocks.{blockKey, blockResult}
 use Rattle.day.specs.Offers.{headFor, dayTaken, blockTaken, endTaken, taken, offerOf, writtenOf, roomAfter, Offers}
 use Rattle.day.proofs.Read.{read}
 use Rattle.day.proofs.Taking.{result-length}

@@ -12,7 +12,8 @@ use Rattle.records.proofs.Accepted.{block-end}
 use Rattle.records.proofs.Read.{GroupPassed, group-passed}
 use Rattle.blocks.specs.declared.check.Block.{Block}
 use Rattle.blocks.specs.Checking.{blockOf, blockUnitsOf}
-use Rattle.blocks.specs.Blocks.{blockCount, blockGroup}
+use Rattle.decode.specs.Block.{blockCount}
+use Rattle.blocks.specs.Blocks.{blockGroup}
 use Rattle.blocks.proofs.Sound.{units-accepted}
 use Rattle.blocks.proofs.ByUnits.{made}
 use Rattle.day.specs.declared.value.Day.{Day}

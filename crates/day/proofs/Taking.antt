@@ -17,7 +17,8 @@ use Rattle.writers.proofs.Lengths.{length-group-result, length-results}
 use Rattle.day.specs.declared.value.Day.{Day}
 use Rattle.day.specs.declared.offer.Step.{Step}
 use Rattle.day.specs.declared.offer.Offered.the-variants as O
-use Rattle.blocks.specs.Blocks.{groupResult, resultIn, blockCount, blockResult}
+use Rattle.decode.specs.Block.{blockCount}
+use Rattle.blocks.specs.Blocks.{groupResult, resultIn, blockResult}
 use Rattle.day.specs.Days.{opened, closed}
 use Rattle.day.specs.Offers.{dayTaken, endTaken, dayAfter, roomAfter, Gave, Offering}
 

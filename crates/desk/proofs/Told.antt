@@ -25,7 +25,8 @@ use Rattle.records.proofs.Numbers.{headNumbers, dayNumbers, firstNumbers, unitN
 use Rattle.writers.specs.Results.{resultLength}
 use Rattle.walk.specs.declared.table.Role.the-variants.{Block}
 use Rattle.walk.specs.Table.{roleOf}
-use Rattle.blocks.specs.Blocks.{groupTold, blockCount, blockGroup, blockResult, unitResult}
+use Rattle.decode.specs.Block.{blockCount}
+use Rattle.blocks.specs.Blocks.{groupTold, blockGroup, blockResult, unitResult}
 use Rattle.day.specs.declared.offer.Step.{Step}
 use Rattle.day.specs.Days.{opened}
 use Rattle.day.specs.Offers.{offerOf, blockOfferOf, roomAfter}

@@ -25,7 +25,8 @@ use Rattle.day.specs.declared.value.Day.{Day}
 use Rattle.records.specs.Longest.{longestResult}
 use Rattle.day.specs.declared.offer.Step.{Step}
 use Rattle.day.specs.declared.offer.Offered.the-variants as O
-use Rattle.blocks.specs.Blocks.{groupResult, groupTold, blockCount, blockResult}
+use Rattle.decode.specs.Block.{blockCount}
+use Rattle.blocks.specs.Blocks.{groupResult, groupTold, blockResult}
 use Rattle.day.specs.Offers.{headFor, offerOf, writtenOf, Offers}
 use Rattle.day.proofs.Taking.{result-length}
 use Rattle.day.proofs.Outcomes.{taken-block, reply}

@@ -33,7 +33,8 @@ use Rattle.writers.specs.Writing.{groupOver, DayWritten, BlockWritten, EndWritt
 use Rattle.writers.proofs.Back.{day-back, block-back, end-back}
 use Rattle.walk.specs.declared.table.Role.the-variants.{Opens, Block, Closes}
 use Rattle.walk.specs.Table.{roleOf}
-use Rattle.blocks.specs.Blocks.{groupTold, blockCount, blockGroup, unitResult}
+use Rattle.decode.specs.Block.{blockCount}
+use Rattle.blocks.specs.Blocks.{groupTold, blockGroup, unitResult}
 use Rattle.day.specs.declared.value.Day.{Day}
 use Rattle.day.specs.declared.offer.Step.{Step}
 use Rattle.day.specs.declared.offer.Offered.the-variants.{Taken, Refused}

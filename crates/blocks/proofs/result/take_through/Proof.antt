@@ -7,7 +7,7 @@ use denote.Ref.{now}
 use lib.ListN.{length}
 use Rattle.terms.specs.Reply.{is}
 use Rattle.writers.specs.Results.{resultLength}
-use Rattle.blocks.specs.Blocks.{blockCount}
+use Rattle.decode.specs.Block.{blockCount}
 use Rattle.blocks.specs.Checking.{blockReply, blockUnitsOf}
 use Rattle.blocks.proofs.Telling.{read-ends, read-passed, read-decoded, taking-refused, taking-small, taking-done, taken-long}
 use borrow.Author.Needs.{needs}

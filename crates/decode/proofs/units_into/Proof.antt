@@ -2,11 +2,11 @@
 use mathlib.Core.Bool.{false}
 use mathlib.Core.Logic.{⊎-elim}
 use mathlib.Core.Path.{_≡_, sym, ap, _∙_}
-use Rattle.blocks.specs.declared.decode.Reading.{Reading}
-use Rattle.blocks.proofs.Telling.{pass-broken, pass-all, pass-not}
+use Rattle.decode.specs.declared.Reading.{Reading}
+use Rattle.decode.proofs.Looking.{pass-broken, pass-all, pass-not}
 use borrow.Author.Needs.{needs}
-use Rattle.blocks.proofs.decode.units_into.Statement.{statement}
-use Rattle.blocks.proofs.decode.units_into.Tie as tie
+use Rattle.decode.proofs.units_into.Statement.{statement}
+use Rattle.decode.proofs.units_into.Tie as tie
 
 -- where the units were read, and what stood before
 abbrev read : tie.After-step-up → tie.After-read-into

@@ -13,10 +13,10 @@ use Rattle.numbers.specs.Sum.{bit}
 use Rattle.terms.proofs.Considered.{considered-by}
 use Rattle.records.specs.Decoding.{unitN0}
 use Rattle.records.proofs.Marks.{marked}
-use Rattle.blocks.proofs.Units.{mark}
+use Rattle.decode.proofs.Units.{mark}
 use borrow.Author.Needs.{needs}
-use Rattle.blocks.proofs.decode.take_in.Statement.{statement}
-use Rattle.blocks.proofs.decode.take_in.Tie as tie
+use Rattle.decode.proofs.take_in.Statement.{statement}
+use Rattle.decode.proofs.take_in.Tie as tie
 
 marks-pass-requires : tie.Need-marks-pass-requires
 marks-pass-requires c κs = search needs

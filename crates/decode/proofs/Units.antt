@@ -33,10 +33,10 @@ use Rattle.records.proofs.Accepted.{unit-in}
 use Rattle.records.proofs.UnitHeads.{kind-known, ends-fit, unit-lies}
 use Rattle.records.proofs.Marks.{marked, marks-enough, unit-read, read-marked}
 use Rattle.records.proofs.Turns.{unitsAfter, units-steps}
-use Rattle.blocks.specs.Blocks.{blockCount}
-use Rattle.blocks.specs.declared.decode.Reading.{Reading}
-use Rattle.blocks.specs.Inner.{Begun, Passed, UnitRoom, TakenIn, ReadTo, Decoded, Amounts, unitsAt, UnitsRead}
-use Rattle.blocks.proofs.Filling.{Filled, fill-none, fill-more, fill-all}
+use Rattle.decode.specs.Block.{blockCount}
+use Rattle.decode.specs.declared.Reading.{Reading}
+use Rattle.decode.specs.Inner.{Begun, Passed, UnitRoom, TakenIn, ReadTo, Decoded, Amounts, unitsAt, UnitsRead}
+use Rattle.decode.proofs.Filling.{Filled, fill-none, fill-more, fill-all}
 
 -- the unit of an index passed its checks, and lies whole in the block
 module _ {s : List ℕ} (b : Passed s) where

@@ -12,11 +12,11 @@ use Rattle.records.specs.Layouts.{unitKind, unitLength, lengthOf, unitAt}
 use Rattle.records.specs.Inner.{isPlain}
 use Rattle.records.proofs.Heads.{whole-headed}
 use Rattle.records.proofs.UnitHeads.{plain-body, plain-whole}
-use Rattle.blocks.specs.declared.decode.Reading.{Reading}
-use Rattle.blocks.specs.Blocks.{blockCount}
-use Rattle.blocks.proofs.Units.{Going, start, below, past, room, not-marked, fits, turn, hand-on, end, ended, broken, came}
-use Rattle.blocks.proofs.decode.read_into.Statement.{statement}
-use Rattle.blocks.proofs.decode.read_into.Tie as tie
+use Rattle.decode.specs.declared.Reading.{Reading}
+use Rattle.decode.specs.Block.{blockCount}
+use Rattle.decode.proofs.Units.{Going, start, below, past, room, not-marked, fits, turn, hand-on, end, ended, broken, came}
+use Rattle.decode.proofs.read_into.Statement.{statement}
+use Rattle.decode.proofs.read_into.Tie as tie
 
 abbrev Inv-loop : tie.InvT-loop
 Inv-loop s day class₀ taken₀ n0₀ step-down₀ step-up₀ floor₀ here₀ p₀ i₀ class taken n0 step-down step-up floor here p i =

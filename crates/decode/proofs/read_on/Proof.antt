@@ -12,11 +12,11 @@ use Rattle.records.specs.Layouts.{unitKind, intervalKind, unitLength, intervalL
 use Rattle.records.specs.Inner.{isPlain, isInterval}
 use Rattle.records.proofs.Heads.{whole-headed}
 use Rattle.records.proofs.UnitHeads.{plain-body, plain-whole, interval-body, interval-whole}
-use Rattle.blocks.specs.declared.decode.Reading.{Reading}
-use Rattle.blocks.specs.Blocks.{blockCount}
-use Rattle.blocks.proofs.Units.{Going, below, past, room, not-there, not-marked, fits, turn, take-up, end, ended, broken, came}
-use Rattle.blocks.proofs.decode.read_on.Statement.{statement}
-use Rattle.blocks.proofs.decode.read_on.Tie as tie
+use Rattle.decode.specs.declared.Reading.{Reading}
+use Rattle.decode.specs.Block.{blockCount}
+use Rattle.decode.proofs.Units.{Going, below, past, room, not-there, not-marked, fits, turn, take-up, end, ended, broken, came}
+use Rattle.decode.proofs.read_on.Statement.{statement}
+use Rattle.decode.proofs.read_on.Tie as tie
 
 abbrev Inv-loop2 : tie.InvT-loop2
 Inv-loop2 s day class₀ taken₀ n0₀ step-down₀ step-up₀ from least sold first floor₀ here₀ p₀ i₀ class taken n0 step-down step-up floor here p i =

@@ -1,0 +1,3 @@
+-- The units of a block, read into columns.
+pub mod Block
+pub mod Inner
