@@ -138,7 +138,7 @@ class Rest:
     """What is left out, as a change of the crate."""
 
     def __init__(self, pieces, paths):
-        self.pieces, self.paths, self.function = pieces, paths, None
+        self.pieces, self.paths, self.files, self.function = pieces, paths, {}, None
 
 
 @functools.lru_cache(None)

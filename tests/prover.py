@@ -1,13 +1,14 @@
 """Changes of the crates' files put before the prover, several in one check where they are of different functions.
 
 A change has a `crate`, its `pieces`, each a file of the crate as it stands, where a piece of it starts and ends and what
-comes in its place, and the `function` whose body alone it changes, or None. A check starts from the checked modules of
+comes in its place, the `files` that come, and the `function` whose body alone it changes, or None. A check starts from the checked modules of
 the crate as it stands, so that the prover checks anew only what the changes touch; the first of a program starts from nothing,
 since rt keeps none of its modules. What the changed functions do not rest on can be left out (tests/parts.py). The crates must be
 proved.
 """
 
 import concurrent.futures
+import copy
 import os
 import pathlib
 import platform
@@ -226,6 +227,11 @@ class Bench:
         for change in changes:
             for file, *piece in change.pieces:
                 pieces.setdefault(file, []).append(piece)
+            for file, text in change.files.items():
+                path = self.place / crate / file
+                path.parent.mkdir(parents=True, exist_ok=True)
+                path.write_text(text)
+                self.holds = []
         for file in pieces:
             path = self.place / crate / file
             path.write_text(replaced(path.read_text(), pieces[file]))
@@ -278,6 +284,17 @@ class Function:
         self.source = re.compile(rf"/src/{re.escape(region.path.name)}:(\d+):")
         self.lines = range(region.text.count("\n", 0, region.start) + 1, region.text.count("\n", 0, region.end) + 2)
 
+    def called(self, name):
+        """A copy of it under another name, which has no lines of its own."""
+        other = copy.copy(self)
+        other.name = "::".join([*self.name.split("::")[:-1], name])
+        other.proof = "/".join([*self.proof.split("/")[:-2], name, "Proof.antt:"])
+        other.lines = range(0)
+        return other
+
+    def proof_file(self):
+        return self.proof.strip("/:")
+
     def has(self, fact):
         """Whether it is in its own proof, or in the search for one where it has no file, that a fact no longer holds."""
         return fact.startswith(f"fn {self.name}: ") or self.proof in fact and not fact.startswith("fn ")
@@ -314,6 +331,8 @@ def told_together(bench, lot, rest=None):
 
 class Change:
     """A change of the crates' files. One of a function's body is refused by a fact in the function's own proof."""
+
+    files = {}
 
     def owns(self, fact):
         return self.function.has(fact)
