@@ -1,5 +1,5 @@
 #!/usr/bin/env python3
-"""A few frames of docs/PROBE.md and the replies that documents 01 and 02 give: crates/probe/stdin and stdout.
+"""A few frames of docs/PROBE.md and the replies that it and documents 01 and 02 give: tests/probe/stdin and stdout.
 
 usage: tests/frames.py --write    writes the two files
        tests/frames.py --check    tells whether they are as it would write them
@@ -9,7 +9,7 @@ import pathlib
 import struct
 import sys
 
-PROBE = pathlib.Path(__file__).resolve().parent.parent / "crates" / "probe"
+PROBE = pathlib.Path(__file__).resolve().parent / "probe"
 NOT_FITTING = b""
 FILLER = b"\xa5"
 UNTOUCHED = [struct.unpack(">i", FILLER * 4)[0]]
@@ -71,6 +71,24 @@ UNITS = ([5000, 3000, 9000], [-4000, -2000, -7999], [0, 2400, 7000], [4500, 6000
 RIGHT = accepted(5, -13999, 16500, 13999, 14399, -400, 4500, 3000, 9000, 2999, 2000, 9000, 2999, 2400, 9000)
 # The first of the units as a line of a partner's export.
 LINE, LINE_VALUES = b"11;40;5,000;I;0,000;I;4,500;I\n", (11, 40, 5000, 0, 4500)
+# What a frame may hold at the most, and one more.
+NO_DAY = bytes(16)
+LIMITS = [
+    (read_line(b"1" * 8192), line_refused(20, 0)),
+    (read_line(b"1" * 8193), reply(NOT_FITTING)),
+    (write_line(LINE_VALUES, 2304), line_written(LINE, 2304)),
+    (write_line(LINE_VALUES, 2305), reply(NOT_FITTING)),
+    (columns(*[[0] * 80] * 5, written=(80, 80, 80)), refused(5, 0, written=234)),
+    (columns(*[[0] * 80] * 5, written=(80, 80, 81)), reply(NOT_FITTING)),
+    (frame(3, NO_DAY + b"\1" + bytes(4)), reply(refusal(1, 0))),
+    (frame(3, NO_DAY + b"\2" + bytes(4)), reply(NOT_FITTING)),
+    (frame(7, b"\2" + bytes(4)), reply(b"\2")),
+    (frame(7, b"\3" + bytes(4)), reply(NOT_FITTING)),
+    (frame(8, b"\2"), reply(2 * refusal(1, 0))),
+    (frame(8, b"\0"), reply(NOT_FITTING)),
+    (frame(9, bytes(5)), reply(i32s(-1))),
+    (frame(9, bytes(6)), reply(NOT_FITTING)),
+]
 CASES = [
     (columns(*UNITS, [0, 0, 1]), RIGHT),
     (columns(*UNITS, [0, 2, 1]), refused(7, 1)),
@@ -86,6 +104,7 @@ CASES = [
     (write_line(LINE_VALUES, 32), line_written(LINE, 32)),
     (write_line(LINE_VALUES, 29), line_refused(12, 0, room=29)),
     (frame(11, VALUES.pack(*LINE_VALUES) + b"\0"), reply(NOT_FITTING)),
+    *LIMITS,
     (columns(*UNITS, [0, 0, 1])[:-1], b""),
 ]
 
@@ -98,7 +117,7 @@ def main(words):
     elif words == ["--check"]:
         stale = [path for path, content in files.items() if path.read_bytes() != content]
         for path in stale:
-            print(f"crates/probe/{path.name} is not what tests/frames.py writes")
+            print(f"tests/probe/{path.name} is not what tests/frames.py writes")
         return 1 if stale else 0
     else:
         sys.exit(__doc__)

@@ -1,3 +1,0 @@
--- What is promised of columns that are handed over.
-pub mod Handing
-pub mod Inner

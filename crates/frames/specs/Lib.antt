@@ -1,2 +1,0 @@
--- What is promised of a reply.
-pub mod Frames

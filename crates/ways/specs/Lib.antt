@@ -1,0 +1,2 @@
+-- What the exported calls tell.
+pub mod Telling
