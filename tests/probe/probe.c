@@ -8,12 +8,12 @@
 #include <string.h>
 
 enum { BODY_MAX = 8192, ROOM_MAX = 2304, COLUMN_MAX = 80, FILLER = 0xA5 };
-enum { FRESH, OPEN, CLOSED };
+enum { CLOSED = 2 };
 
 /* ---- The calls of the crate `ways` --------------------------------------- */
 
-/* A day value and what a call tells, by the numbers that the crate gives them. */
-enum { STATE, SEEN = 7, DAY = 11, TOLD = 7, DONE = 255 };
+/* How many numbers a day value has and a call tells, and the first of these where a walk is done. */
+enum { DAY = 11, TOLD = 7, DONE = 255 };
 
 /* A slice goes in as where it starts and how long it is. */
 #define IN(type, name) const type *name, size_t name##_length
@@ -59,24 +59,31 @@ static const uint8_t *take(body *b, size_t length)
     return at;
 }
 
-/* A number of one, two or four bytes. */
-static uint32_t take_number(body *b, size_t width)
+static uint8_t take_u8(body *b)
 {
-    const uint8_t *at = take(b, width);
-    uint32_t number = 0;
-    for (size_t i = 0; i < width; i++)
-        number = number << 8 | at[i];
-    return number;
+    return *take(b, 1);
 }
 
-static int32_t take_signed(body *b)
+static uint16_t take_u16(body *b)
 {
-    return (int32_t)take_number(b, 4);
+    const uint8_t *at = take(b, 2);
+    return (uint16_t)(at[0] << 8 | at[1]);
 }
 
-static size_t take_at_most(body *b, size_t width, size_t most)
+static uint32_t take_u32(body *b)
 {
-    const size_t number = take_number(b, width);
+    const uint8_t *at = take(b, 4);
+    return (uint32_t)at[0] << 24 | (uint32_t)at[1] << 16 | (uint32_t)at[2] << 8 | at[3];
+}
+
+static int32_t take_i32(body *b)
+{
+    return (int32_t)take_u32(b);
+}
+
+/* The number, which does not fit the call where it is past its limit. */
+static size_t at_most(body *b, size_t most, size_t number)
+{
     if (number <= most)
         return number;
     b->fits = false;
@@ -86,13 +93,13 @@ static size_t take_at_most(body *b, size_t width, size_t most)
 static void take_lengths(body *b, size_t *lengths, size_t count)
 {
     for (size_t i = 0; i < count; i++)
-        lengths[i] = take_at_most(b, 1, COLUMN_MAX);
+        lengths[i] = at_most(b, COLUMN_MAX, take_u8(b));
 }
 
-static void take_signeds(body *b, int32_t *column, size_t length)
+static void take_i32s(body *b, int32_t *column, size_t length)
 {
     for (size_t i = 0; i < length; i++)
-        column[i] = take_signed(b);
+        column[i] = take_i32(b);
 }
 
 /* Whether all of the body was taken, and fits. */
@@ -103,14 +110,19 @@ static bool whole(const body *b)
 
 /* ---- Day values and room --------------------------------------------------- */
 
-static const size_t day_widths[DAY] = {1, 2, 1, 4, 2, 2, 4, 1, 2, 1, 1};
-
 static void take_day(body *b, uint32_t *day)
 {
-    for (size_t i = 0; i < DAY; i++)
-        day[i] = take_number(b, day_widths[i]);
-    if (day[STATE] > CLOSED || day[SEEN] > 1)
-        b->fits = false;
+    day[0] = (uint32_t)at_most(b, CLOSED, take_u8(b));
+    day[1] = take_u16(b);
+    day[2] = take_u8(b);
+    day[3] = take_u32(b);
+    day[4] = take_u16(b);
+    day[5] = take_u16(b);
+    day[6] = take_u32(b);
+    day[7] = (uint32_t)at_most(b, 1, take_u8(b));
+    day[8] = take_u16(b);
+    day[9] = take_u8(b);
+    day[10] = take_u8(b);
 }
 
 static uint8_t room[ROOM_MAX];
@@ -118,7 +130,7 @@ static uint8_t room[ROOM_MAX];
 /* Takes a length, and lends so much room. */
 static size_t take_room(body *b)
 {
-    const size_t length = take_at_most(b, 2, ROOM_MAX);
+    const size_t length = at_most(b, ROOM_MAX, take_u16(b));
     memset(room, FILLER, length);
     return length;
 }
@@ -129,10 +141,25 @@ static size_t take_room(body *b)
 static uint8_t reply[4096];
 static size_t replied;
 
-static void give_number(uint64_t number, size_t width)
+static void give_u8(uint64_t number)
 {
-    for (size_t i = width; i > 0; i--)
-        reply[replied++] = (uint8_t)(number >> 8 * (i - 1));
+    reply[replied++] = (uint8_t)number;
+}
+
+static void give_u16(uint64_t number)
+{
+    give_u8(number >> 8);
+    give_u8(number);
+}
+
+static void give_u32(uint64_t number)
+{
+    uint8_t *at = reply + replied;
+    at[0] = (uint8_t)(number >> 24);
+    at[1] = (uint8_t)(number >> 16);
+    at[2] = (uint8_t)(number >> 8);
+    at[3] = (uint8_t)number;
+    replied += 4;
 }
 
 static void give_room(size_t length)
@@ -141,45 +168,65 @@ static void give_room(size_t length)
     replied += length;
 }
 
-static void give_signeds(const int32_t *column, size_t length)
+static void give_i32s(const int32_t *column, size_t length)
 {
     for (size_t i = 0; i < length; i++)
-        give_number((uint32_t)column[i], 4);
+        give_u32((uint32_t)column[i]);
 }
 
 static void give_day(const uint32_t *day)
 {
-    for (size_t i = 0; i < DAY; i++)
-        give_number(day[i], day_widths[i]);
+    give_u8(day[0]);
+    give_u16(day[1]);
+    give_u8(day[2]);
+    give_u32(day[3]);
+    give_u16(day[4]);
+    give_u16(day[5]);
+    give_u32(day[6]);
+    give_u8(day[7]);
+    give_u16(day[8]);
+    give_u8(day[9]);
+    give_u8(day[10]);
 }
 
-/* An answer: where the call was accepted, what it told, each number by its
- * width and 0 behind the last. */
-static void give_answer(const uint64_t *told, const char *widths)
+/* The first part of an answer; true where the call was accepted and what it
+ * gives back is still to follow. */
+static bool give_answer(const uint64_t *told)
 {
-    if (told[0] != 0) {
-        give_number(1, 1);
-        give_number(told[0], 1);
-        give_number(told[1], 4);
-        return;
+    if (told[0] == 0) {
+        give_u8(0);
+        return true;
     }
-    give_number(0, 1);
-    for (size_t i = 0; widths[i] != 0; i++)
-        give_number(told[1 + i], (size_t)(widths[i] - '0'));
+    give_u8(1);
+    give_u8(told[0]);
+    give_u32(told[1]);
+    return false;
+}
+
+static void give_lengths(const uint64_t *told)
+{
+    if (give_answer(told)) {
+        give_u32(told[1]);
+        give_u32(told[2]);
+    }
 }
 
 static void give_written(const uint64_t *told, size_t length)
 {
-    give_answer(told, "4");
+    if (give_answer(told))
+        give_u32(told[1]);
     give_room(length);
 }
 
 static void give_step(const uint64_t *told)
 {
-    if (told[0] == DONE)
-        give_number(2, 1);
-    else
-        give_answer(told, "441");
+    if (told[0] == DONE) {
+        give_u8(2);
+    } else if (give_answer(told)) {
+        give_u32(told[1]);
+        give_u32(told[2]);
+        give_u8(told[3]);
+    }
 }
 
 /* ---- The calls ---------------------------------------------------------------- */
@@ -192,16 +239,20 @@ static void columns(body *b)
     uint64_t told[TOLD];
     take_lengths(b, length, ALL);
     for (size_t i = 0; i < READ; i++)
-        take_signeds(b, read[i], length[i]);
+        take_i32s(b, read[i], length[i]);
     const uint8_t *class = take(b, length[READ]);
     if (!whole(b))
         return;
     memset(written, FILLER, sizeof written);
     ways_judge(read[0], length[0], read[1], length[1], read[2], length[2], read[3], length[3], class, length[4],
                written[0], length[5], written[1], length[6], written[2], length[7], told);
-    give_answer(told, "144444");
+    if (give_answer(told)) {
+        give_u8(told[1]);
+        for (size_t i = 2; i < TOLD; i++)
+            give_u32(told[i]);
+    }
     for (size_t i = 0; i < WRITTEN; i++)
-        give_signeds(written[i], length[READ + 1 + i]);
+        give_i32s(written[i], length[READ + 1 + i]);
 }
 
 static void offer(body *b)
@@ -213,7 +264,7 @@ static void offer(body *b)
     if (!b->fits)
         return;
     ways_offer(day, b->at, b->left, room, length, told);
-    give_answer(told, "44");
+    give_lengths(told);
     give_day(day);
     give_room(length);
 }
@@ -226,17 +277,17 @@ static void check_block(body *b)
     if (!b->fits)
         return;
     ways_check_block(day, b->at, b->left, told);
-    give_answer(told, "44");
+    give_lengths(told);
 }
 
 static void write_day(body *b)
 {
     uint64_t told[TOLD];
-    const uint16_t day = (uint16_t)take_number(b, 2);
-    const uint8_t quarters = (uint8_t)take_number(b, 1);
-    const uint32_t run = take_number(b, 4);
-    const uint16_t position_limit = (uint16_t)take_number(b, 2);
-    const uint16_t margin_limit = (uint16_t)take_number(b, 2);
+    const uint16_t day = take_u16(b);
+    const uint8_t quarters = take_u8(b);
+    const uint32_t run = take_u32(b);
+    const uint16_t position_limit = take_u16(b);
+    const uint16_t margin_limit = take_u16(b);
     const size_t length = take_room(b);
     if (!whole(b))
         return;
@@ -252,26 +303,26 @@ static void write_block(body *b)
         upper[COLUMN_MAX];
     uint32_t made[COLUMN_MAX];
     uint64_t told[TOLD];
-    const uint16_t brp = (uint16_t)take_number(b, 2);
-    const uint8_t zone = (uint8_t)take_number(b, 1);
-    const uint8_t quarter = (uint8_t)take_number(b, 1);
-    const uint32_t positions_made = take_number(b, 4);
+    const uint16_t brp = take_u16(b);
+    const uint8_t zone = take_u8(b);
+    const uint8_t quarter = take_u8(b);
+    const uint32_t positions_made = take_u32(b);
     take_lengths(b, of, 12);
     const size_t length = take_room(b);
     for (size_t i = 0; i < of[0]; i++)
-        number[i] = (uint16_t)take_number(b, 2);
+        number[i] = take_u16(b);
     const uint8_t *class = take(b, of[1]);
     const uint8_t *coincide = take(b, of[2]);
     const uint8_t *nominated = take(b, of[3]);
-    take_signeds(b, n, of[4]);
-    take_signeds(b, pc, of[5]);
-    take_signeds(b, step_down, of[6]);
-    take_signeds(b, step_up, of[7]);
+    take_i32s(b, n, of[4]);
+    take_i32s(b, pc, of[5]);
+    take_i32s(b, step_down, of[6]);
+    take_i32s(b, step_up, of[7]);
     for (size_t i = 0; i < of[8]; i++)
-        made[i] = take_number(b, 4);
+        made[i] = take_u32(b);
     const uint8_t *kind = take(b, of[9]);
-    take_signeds(b, lower, of[10]);
-    take_signeds(b, upper, of[11]);
+    take_i32s(b, lower, of[10]);
+    take_i32s(b, upper, of[11]);
     if (!whole(b))
         return;
     ways_write_block(brp, zone, quarter, positions_made, number, of[0], class, of[1], coincide, of[2], nominated,
@@ -283,7 +334,7 @@ static void write_block(body *b)
 static void write_end(body *b)
 {
     uint64_t told[TOLD];
-    const uint32_t groups = take_number(b, 4);
+    const uint32_t groups = take_u32(b);
     const size_t length = take_room(b);
     if (!whole(b))
         return;
@@ -294,8 +345,8 @@ static void write_end(body *b)
 static void next(body *b)
 {
     uint64_t told[TOLD];
-    const uint32_t state = (uint32_t)take_at_most(b, 1, CLOSED);
-    const size_t place = take_number(b, 4);
+    const uint32_t state = (uint32_t)at_most(b, CLOSED, take_u8(b));
+    const size_t place = take_u32(b);
     if (!b->fits)
         return;
     ways_next(b->at, b->left, state, place, told);
@@ -305,7 +356,7 @@ static void next(body *b)
 static void walker(body *b)
 {
     uint64_t told[TOLD];
-    const size_t times = take_number(b, 1);
+    const size_t times = take_u8(b);
     for (size_t i = 0; i < times; i++) {
         ways_walk_at(b->at, b->left, i, told);
         give_step(told);
@@ -314,14 +365,14 @@ static void walker(body *b)
 
 static void c_call(body *b)
 {
-    const size_t day_length = take_number(b, 1);
-    const size_t block_length = take_number(b, 2);
+    const size_t day_length = take_u8(b);
+    const size_t block_length = take_u16(b);
     const size_t length = take_room(b);
     const uint8_t *day = take(b, day_length);
     const uint8_t *block = take(b, block_length);
     if (!whole(b))
         return;
-    give_number((uint32_t)flehwella_check(day, day_length, block, block_length, room, length), 4);
+    give_u32((uint32_t)flehwella_check(day, day_length, block, block_length, room, length));
     give_room(length);
 }
 
@@ -329,17 +380,23 @@ static void read_line(body *b)
 {
     uint64_t told[TOLD];
     ways_read_line(b->at, b->left, told);
-    give_answer(told, "421444");
+    if (give_answer(told)) {
+        give_u32(told[1]);
+        give_u16(told[2]);
+        give_u8(told[3]);
+        for (size_t i = 4; i < TOLD; i++)
+            give_u32(told[i]);
+    }
 }
 
 static void write_line(body *b)
 {
     uint64_t told[TOLD];
-    const uint16_t number = (uint16_t)take_number(b, 2);
-    const uint8_t quarter = (uint8_t)take_number(b, 1);
-    const int32_t n = take_signed(b);
-    const int32_t step_down = take_signed(b);
-    const int32_t step_up = take_signed(b);
+    const uint16_t number = take_u16(b);
+    const uint8_t quarter = take_u8(b);
+    const int32_t n = take_i32(b);
+    const int32_t step_down = take_i32(b);
+    const int32_t step_up = take_i32(b);
     const size_t length = take_room(b);
     if (!whole(b))
         return;
@@ -364,7 +421,7 @@ static bool write_reply(void)
 {
     const size_t length = replied;
     replied = 0;
-    give_number(length - 4, 4);
+    give_u32(length - 4);
     return fwrite(reply, 1, length, stdout) == length;
 }
 
