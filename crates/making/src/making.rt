@@ -1,11 +1,13 @@
 // The making of a day, line by line: each record lies in the room as soon as its line is read, and a block is whole with its last unit.
 ghost use mathlib.Core.Path.{_≡_};
-ghost use Prim.Native.Nat.{_+_};
+ghost use Prim.Native.Nat.{_+_, _^_, _<_};
 ghost use lib.Dec.{leb};
 ghost use Rattle.terms.specs.Refusals.{answer};
+ghost use Rattle.records.specs.Layouts.{lengthOf};
 ghost use Rattle.records.specs.Reading.{valueFaults};
 ghost use Rattle.making.specs.Spot.{faultSpot};
-ghost use Rattle.making.specs.Making.{writtenMade, dayTurn, endTurn, openFound, groupTurn, foundOf, wholeMade, unitTurn, unitNext, isDue, isOver, mayCome, wordOf, cameOf, lineTurn, turnOf, Turns};
+ghost use Rattle.making.specs.Inner.{pairSpot, quantitySpot};
+ghost use Rattle.making.specs.Making.{writtenMade, dayTurn, endTurn, openFound, groupTurn, foundOf, wholeMade, madeByUnit, unitTurn, unitNext, isDue, isOver, mayCome, wordOf, cameOf, lineTurn, turnOf, Turns};
 use crate::spot::Spot;
 use records::day::DayRecord;
 use records::end::EndRecord;
@@ -52,7 +54,35 @@ pub enum Made {
     Refused(u8, u64, Spot),
 }
 
-// The field of a unit's fault, by its index in the line, docs/TEXT.md.
+// 9 and 19: the field that a fault of two fields is told of; no unit of a text has those of a 03h's ends and of age.
+fn pair_spot(u: UnitRecord, fault: Fault) -> Spot
+    ensures { λ r. ⌜ r ≡ pairSpot u fault ⌝ }
+{
+    match fault {
+        Fault::Crossed => Spot::Value(UnitRecord::KIND, 7, u.step_down),
+        Fault::EndsCrossed => Spot::Value(UnitRecord::KIND, 10, u.lower),
+        Fault::NotFull => Spot::Value(UnitRecord::KIND, 10, 0),
+        Fault::WorkingCrossed => Spot::Value(UnitRecord::KIND, 10, u.lower),
+        _ => Spot::Value(UnitRecord::KIND, 9, 0),
+    }
+}
+
+// 8: the quantity that is out of range.
+fn quantity_spot(u: UnitRecord, fault: Fault) -> Spot
+    ensures { λ r. ⌜ r ≡ quantitySpot u fault ⌝ }
+{
+    match fault {
+        Fault::N => Spot::Value(UnitRecord::KIND, 5, u.n.0),
+        Fault::Pc => Spot::Value(UnitRecord::KIND, 6, u.pc.0),
+        Fault::StepDown => Spot::Value(UnitRecord::KIND, 7, u.step_down),
+        Fault::StepUp => Spot::Value(UnitRecord::KIND, 8, u.step_up),
+        Fault::Lower => Spot::Value(UnitRecord::KIND, 10, u.lower),
+        Fault::Upper => Spot::Value(UnitRecord::KIND, 11, u.upper),
+        _ => pair_spot(u, fault),
+    }
+}
+
+// The field of a unit's fault, by its index in the line, docs/TEXT.md. 8, 9 and 19 have matches of their own, so that a row is checked with few others.
 fn fault_spot(u: UnitRecord, fault: Fault) -> Spot
     ensures { λ r. ⌜ r ≡ faultSpot u fault ⌝ }
 {
@@ -63,18 +93,7 @@ fn fault_spot(u: UnitRecord, fault: Fault) -> Spot
         Fault::Coincide => Spot::Value(UnitRecord::KIND, 3, u.coincide as i32),
         Fault::Nominated => Spot::Value(UnitRecord::KIND, 4, u.nominated as i32),
         Fault::NotNominated => Spot::Value(UnitRecord::KIND, 5, u.n.0),
-        Fault::N => Spot::Value(UnitRecord::KIND, 5, u.n.0),
-        Fault::Pc => Spot::Value(UnitRecord::KIND, 6, u.pc.0),
-        Fault::StepDown => Spot::Value(UnitRecord::KIND, 7, u.step_down),
-        Fault::StepUp => Spot::Value(UnitRecord::KIND, 8, u.step_up),
-        Fault::Lower => Spot::Value(UnitRecord::KIND, 10, u.lower),
-        Fault::Upper => Spot::Value(UnitRecord::KIND, 11, u.upper),
-        Fault::Crossed => Spot::Value(UnitRecord::KIND, 7, u.step_down),
-        Fault::EndsCrossed => Spot::Value(UnitRecord::KIND, 10, u.lower),
-        Fault::NotFull => Spot::Value(UnitRecord::KIND, 10, 0),
-        Fault::WorkingCrossed => Spot::Value(UnitRecord::KIND, 10, u.lower),
-        Fault::Ahead => Spot::Value(UnitRecord::KIND, 9, 0),
-        Fault::Age => Spot::Value(UnitRecord::KIND, 9, 0),
+        _ => quantity_spot(u, fault),
     }
 }
 
@@ -173,18 +192,13 @@ fn whole(found: Found, bytes: usize) -> Made
     }
 }
 
-fn unit(b: Block, u: UnitRecord, line: u64, room: &mut [u8]) -> Made
-    ensures { λ r. ⌜ Turns (unitTurn b u line (now (room .entry))) r (now (room .exit)) ⌝ }
+// A block with one unit more.
+fn made_by_unit(b: Block, u: UnitRecord, found: Found) -> Made
+    requires { ⌜ b .here + lengthOf u < 2 ^ 64 ⌝ }
+    ensures { λ r. ⌜ r ≡ madeByUnit b u found ⌝ }
 {
-    let here = b.here;
     let length = u.length();
-    if !has_room(room.len(), here, length) {
-        return Made::Refused(12, line, Spot::Nowhere);
-    }
-    let next = here + length;
-    lay_unit(room, here, u);
-    let before = b.found;
-    let found = found_in(before, u, b.floor, line);
+    let next = b.here + length;
     if b.left <= 1 {
         return whole(found, next);
     }
@@ -196,16 +210,27 @@ fn unit(b: Block, u: UnitRecord, line: u64, room: &mut [u8]) -> Made
     }))
 }
 
+fn unit(b: Block, u: UnitRecord, line: u64, room: &mut [u8]) -> Made
+    ensures { λ r. ⌜ Turns (unitTurn b u line (now (room .entry))) r (now (room .exit)) ⌝ }
+{
+    let here = b.here;
+    let length = u.length();
+    if !has_room(room.len(), here, length) {
+        return Made::Refused(12, line, Spot::Nowhere);
+    }
+    lay_unit(room, here, u);
+    let before = b.found;
+    made_by_unit(b, u, found_in(before, u, b.floor, line))
+}
+
 // A unit where one is due.
 fn unit_next(m: Making, u: UnitRecord, line: u64, room: &mut [u8]) -> Made
     ensures { λ r. ⌜ Turns (unitNext m u line (now (room .entry))) r (now (room .exit)) ⌝ }
 {
-    match m {
-        Making::Within(b) => unit(b, u, line, room),
-        Making::Opening => Made::Refused(2, line, Spot::Came(UnitRecord::KIND)),
-        Making::Between => Made::Refused(2, line, Spot::Came(UnitRecord::KIND)),
-        Making::Over => Made::Refused(2, line, Spot::Came(UnitRecord::KIND)),
-    }
+    let Making::Within(b) = m else {
+        return Made::Refused(2, line, Spot::Came(UnitRecord::KIND));
+    };
+    unit(b, u, line, room)
 }
 
 fn word(kind: u8, field: Field) -> Spot

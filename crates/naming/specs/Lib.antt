@@ -1,2 +1,3 @@
 -- A refusal in words.
 pub mod Words
+pub mod Inner

@@ -5,9 +5,35 @@ ghost use lib.ListN.{length};
 ghost use Rattle.numbers.specs.Decimal.{decimal};
 ghost use Rattle.lines.specs.Lines.{signedDecimal, i32Field, u32Field, u64Field};
 ghost use Rattle.lines.specs.Inner.{Lays};
-ghost use Rattle.naming.specs.Words.{numbered, keyWords, subjectWords, unitFieldName, fieldName, valueWords, againstWords, ageWords, heldWords, toldWords, lastWords, findingWords, nameLine};
+ghost use Rattle.naming.specs.Inner.{wordOf};
+ghost use Rattle.naming.specs.Words.{numbered, keyWords, subjectWords, valueWords, againstWords, ageWords, heldWords, toldWords, lastWords, findingWords, nameLine};
 ghost use Rattle.naming.specs.Words.{longestKey, longestSubject, longestName, longestValue, longestAge, longestHeld, longestFinding, longestLine};
-use finding::named::Field;
+use crate::fixed::ABOVE_WORD;
+use crate::fixed::ACCEPTED_WORD;
+use crate::fixed::AFTER_WORD;
+use crate::fixed::AGE_WORD;
+use crate::fixed::AHEAD_PHRASE;
+use crate::fixed::BELOW_WORD;
+use crate::fixed::BRP_WORD;
+use crate::fixed::COLON_WORD;
+use crate::fixed::CUT_WORD;
+use crate::fixed::FIRST_PHRASE;
+use crate::fixed::INDEX_WORD;
+use crate::fixed::LEAST_WORD;
+use crate::fixed::LIMIT_WORD;
+use crate::fixed::MOST_WORD;
+use crate::fixed::OTHER_CALL_PHRASE;
+use crate::fixed::QUARTER_WORD;
+use crate::fixed::ROOM_PHRASE;
+use crate::fixed::RUN_WORD;
+use crate::fixed::UNIT_WORD;
+use crate::fixed::Word;
+use crate::fixed::ZONE_WORD;
+use crate::fixed::field_word;
+use crate::fixed::held_word;
+use crate::fixed::record_word;
+use crate::fixed::unit_field_word;
+use crate::fixed::word_length;
 use finding::named::Finding;
 use finding::named::Held;
 use finding::named::Named;
@@ -41,19 +67,28 @@ fn lay_signed(out: &mut [u8], at: usize, z: i32) -> usize
     lay_i32_field(out, at, z, &pairs)
 }
 
-fn lay_numbered(out: &mut [u8], at: usize, word: &[u8], n: u32) -> usize
-    requires { ⌜ at + length (now word) + u32Field ≤ length (now out) ⌝ }
-    ensures { λ r. ⌜ Lays (now (out .entry)) at (numbered (now (word .entry)) n) (length (now (word .entry)) + u32Field) r (now (out .exit)) ⌝ }
+// A fixed word.
+fn lay_fixed(out: &mut [u8], at: usize, word: Word) -> usize
+    requires { ⌜ at + length (wordOf word) ≤ length (now out) ⌝ }
+    ensures { λ r. ⌜ Lays (now (out .entry)) at (wordOf word) (length (wordOf word)) r (now (out .exit)) ⌝ }
 {
-    let behind = lay_word(out, at, word);
+    let count = word_length(word);
+    lay_word(out, at, &word[..count])
+}
+
+fn lay_numbered(out: &mut [u8], at: usize, word: Word, n: u32) -> usize
+    requires { ⌜ at + length (wordOf word) + u32Field ≤ length (now out) ⌝ }
+    ensures { λ r. ⌜ Lays (now (out .entry)) at (numbered (wordOf word) n) (length (wordOf word) + u32Field) r (now (out .exit)) ⌝ }
+{
+    let behind = lay_fixed(out, at, word);
     lay_plain(out, behind, n)
 }
 
-fn lay_counted(out: &mut [u8], at: usize, word: &[u8], n: usize) -> usize
-    requires { ⌜ at + length (now word) + u64Field ≤ length (now out) ⌝ }
-    ensures { λ r. ⌜ Lays (now (out .entry)) at (numbered (now (word .entry)) n) (length (now (word .entry)) + u64Field) r (now (out .exit)) ⌝ }
+fn lay_counted(out: &mut [u8], at: usize, word: Word, n: usize) -> usize
+    requires { ⌜ at + length (wordOf word) + u64Field ≤ length (now out) ⌝ }
+    ensures { λ r. ⌜ Lays (now (out .entry)) at (numbered (wordOf word) n) (length (wordOf word) + u64Field) r (now (out .exit)) ⌝ }
 {
-    let behind = lay_word(out, at, word);
+    let behind = lay_fixed(out, at, word);
     lay_u64_field(out, behind, n as u64)
 }
 
@@ -61,9 +96,9 @@ fn lay_key(out: &mut [u8], at: usize, k: Key) -> usize
     requires { ⌜ at + longestKey ≤ length (now out) ⌝ }
     ensures { λ r. ⌜ Lays (now (out .entry)) at (keyWords k) longestKey r (now (out .exit)) ⌝ }
 {
-    let brp = lay_numbered(out, at, b"BRP", k.brp as u32);
-    let zone = lay_numbered(out, brp, b", zone", k.zone as u32);
-    lay_numbered(out, zone, b", quarter", k.quarter as u32)
+    let brp = lay_numbered(out, at, BRP_WORD, k.brp as u32);
+    let zone = lay_numbered(out, brp, ZONE_WORD, k.zone as u32);
+    lay_numbered(out, zone, QUARTER_WORD, k.quarter as u32)
 }
 
 fn lay_subject(out: &mut [u8], at: usize, subject: Subject) -> usize
@@ -71,53 +106,16 @@ fn lay_subject(out: &mut [u8], at: usize, subject: Subject) -> usize
     ensures { λ r. ⌜ Lays (now (out .entry)) at (subjectWords subject) longestSubject r (now (out .exit)) ⌝ }
 {
     match subject {
-        Subject::Record => lay_word(out, at, b"record"),
-        Subject::Day => lay_word(out, at, b"day record"),
-        Subject::Group => lay_word(out, at, b"group record"),
-        Subject::End => lay_word(out, at, b"end record"),
         Subject::Block(k) => lay_key(out, at, k),
         Subject::Unit(k, number) => {
             let key = lay_key(out, at, k);
-            lay_numbered(out, key, b", unit", number as u32)
+            lay_numbered(out, key, UNIT_WORD, number as u32)
         }
         Subject::UnitAt(k, index) => {
             let key = lay_key(out, at, k);
-            lay_counted(out, key, b", unit at index", index)
+            lay_counted(out, key, INDEX_WORD, index)
         }
-    }
-}
-
-fn lay_unit_field(out: &mut [u8], at: usize, field: UnitField) -> usize
-    requires { ⌜ at + longestName ≤ length (now out) ⌝ }
-    ensures { λ r. ⌜ Lays (now (out .entry)) at (unitFieldName field) longestName r (now (out .exit)) ⌝ }
-{
-    match field {
-        UnitField::Number => lay_word(out, at, b"number"),
-        UnitField::Class => lay_word(out, at, b"class"),
-        UnitField::Coincide => lay_word(out, at, b"coincide"),
-        UnitField::Nominated => lay_word(out, at, b"nominated"),
-        UnitField::N => lay_word(out, at, b"N"),
-        UnitField::Pc => lay_word(out, at, b"PC"),
-        UnitField::StepDown => lay_word(out, at, b"M-"),
-        UnitField::StepUp => lay_word(out, at, b"M+"),
-        UnitField::Made => lay_word(out, at, b"margins made"),
-        UnitField::Lower => lay_word(out, at, b"lower end"),
-        UnitField::Upper => lay_word(out, at, b"upper end"),
-    }
-}
-
-fn lay_field(out: &mut [u8], at: usize, field: Field) -> usize
-    requires { ⌜ at + longestName ≤ length (now out) ⌝ }
-    ensures { λ r. ⌜ Lays (now (out .entry)) at (fieldName field) longestName r (now (out .exit)) ⌝ }
-{
-    match field {
-        Field::Kind => lay_word(out, at, b"kind"),
-        Field::Quarters => lay_word(out, at, b"quarters"),
-        Field::Quarter => lay_word(out, at, b"quarter"),
-        Field::UnitCount => lay_word(out, at, b"unit count"),
-        Field::PositionsMade => lay_word(out, at, b"positions made"),
-        Field::Groups => lay_word(out, at, b"groups"),
-        Field::Unit(f) => lay_unit_field(out, at, f),
+        _ => lay_fixed(out, at, record_word(subject)),
     }
 }
 
@@ -132,12 +130,12 @@ fn lay_value(out: &mut [u8], at: usize, value: Value) -> usize
 }
 
 // A word, the field that it was held against, and its value.
-fn lay_against(out: &mut [u8], at: usize, word: &[u8], f: UnitField, v: Value) -> usize
-    requires { ⌜ at + length (now word) + longestName + longestValue ≤ length (now out) ⌝ }
-    ensures { λ r. ⌜ Lays (now (out .entry)) at (againstWords (now (word .entry)) f v) (length (now (word .entry)) + longestName + longestValue) r (now (out .exit)) ⌝ }
+fn lay_against(out: &mut [u8], at: usize, word: Word, f: UnitField, v: Value) -> usize
+    requires { ⌜ at + length (wordOf word) + longestName + longestValue ≤ length (now out) ⌝ }
+    ensures { λ r. ⌜ Lays (now (out .entry)) at (againstWords (wordOf word) f v) (length (wordOf word) + longestName + longestValue) r (now (out .exit)) ⌝ }
 {
-    let behind = lay_word(out, at, word);
-    let field = lay_unit_field(out, behind, f);
+    let behind = lay_fixed(out, at, word);
+    let field = lay_fixed(out, behind, unit_field_word(f));
     lay_value(out, field, v)
 }
 
@@ -145,8 +143,8 @@ fn lay_age(out: &mut [u8], at: usize, run: u32, limit: u16) -> usize
     requires { ⌜ at + longestAge ≤ length (now out) ⌝ }
     ensures { λ r. ⌜ Lays (now (out .entry)) at (ageWords run limit) longestAge r (now (out .exit)) ⌝ }
 {
-    let minute = lay_numbered(out, at, b", run", run);
-    lay_numbered(out, minute, b", limit", limit as u32)
+    let minute = lay_numbered(out, at, RUN_WORD, run);
+    lay_numbered(out, minute, LIMIT_WORD, limit as u32)
 }
 
 fn lay_held(out: &mut [u8], at: usize, held: Held) -> usize
@@ -154,25 +152,20 @@ fn lay_held(out: &mut [u8], at: usize, held: Held) -> usize
     ensures { λ r. ⌜ Lays (now (out .entry)) at (heldWords held) longestHeld r (now (out .exit)) ⌝ }
 {
     match held {
-        Held::NotPermitted => lay_word(out, at, b", not permitted"),
-        Held::Quarters => lay_word(out, at, b", one of 92, 96, 100"),
-        Held::Below(n) => lay_numbered(out, at, b", below", n as u32),
-        Held::UnitCount => lay_word(out, at, b", from 1 to 64"),
-        Held::Above(n) => lay_numbered(out, at, b", above", n as u32),
-        Held::Flag => lay_word(out, at, b", one of 0, 1"),
-        Held::NotNominated => lay_word(out, at, b", 0 where not nominated"),
-        Held::Range => lay_word(out, at, b", from -1000000 to 1000000"),
-        Held::AtLeast(f, v) => lay_against(out, at, b", at least ", f, v),
-        Held::AtMost(f, v) => lay_against(out, at, b", at most ", f, v),
+        Held::Below(n) => lay_numbered(out, at, BELOW_WORD, n as u32),
+        Held::Above(n) => lay_numbered(out, at, ABOVE_WORD, n as u32),
+        Held::AtLeast(f, v) => lay_against(out, at, LEAST_WORD, f, v),
+        Held::AtMost(f, v) => lay_against(out, at, MOST_WORD, f, v),
         Held::Old(run, limit, age) => {
             let minutes = lay_age(out, at, run, limit);
-            lay_numbered(out, minutes, b", age", age)
+            lay_numbered(out, minutes, AGE_WORD, age)
         }
         Held::Ahead(run, limit) => {
             let minutes = lay_age(out, at, run, limit);
-            lay_word(out, minutes, b", made after the run")
+            lay_fixed(out, minutes, AHEAD_PHRASE)
         }
-        Held::Accepted(n) => lay_numbered(out, at, b", accepted", n),
+        Held::Accepted(n) => lay_numbered(out, at, ACCEPTED_WORD, n),
+        _ => lay_fixed(out, at, held_word(held)),
     }
 }
 
@@ -183,7 +176,7 @@ fn lay_told(out: &mut [u8], at: usize, t: Told) -> usize
     let f = t.field;
     let v = t.value;
     let h = t.held;
-    let field = lay_field(out, at, f);
+    let field = lay_fixed(out, at, field_word(f));
     let value = lay_value(out, field, v);
     lay_held(out, value, h)
 }
@@ -193,9 +186,9 @@ fn lay_last(out: &mut [u8], at: usize, last: Last) -> usize
     ensures { λ r. ⌜ Lays (now (out .entry)) at (lastWords last) longestFinding r (now (out .exit)) ⌝ }
 {
     match last {
-        Last::Nothing => lay_word(out, at, b"not after the block before"),
+        Last::Nothing => lay_fixed(out, at, FIRST_PHRASE),
         Last::Block(k) => {
-            let after = lay_word(out, at, b"not after ");
+            let after = lay_fixed(out, at, AFTER_WORD);
             lay_key(out, after, k)
         }
     }
@@ -206,11 +199,11 @@ fn lay_finding(out: &mut [u8], at: usize, finding: Finding) -> usize
     ensures { λ r. ⌜ Lays (now (out .entry)) at (findingWords finding) longestFinding r (now (out .exit)) ⌝ }
 {
     match finding {
-        Finding::CutShort(n) => lay_counted(out, at, b"cut short, bytes at hand", n),
+        Finding::CutShort(n) => lay_counted(out, at, CUT_WORD, n),
         Finding::Told(t) => lay_told(out, at, t),
         Finding::NotAfter(last) => lay_last(out, at, last),
-        Finding::Room => lay_word(out, at, b"room too small"),
-        Finding::OtherCall => lay_word(out, at, b"a refusal of another call"),
+        Finding::Room => lay_fixed(out, at, ROOM_PHRASE),
+        Finding::OtherCall => lay_fixed(out, at, OTHER_CALL_PHRASE),
     }
 }
 
@@ -221,7 +214,7 @@ pub fn lay_line(out: &mut [u8], n: Named) -> usize
     let s = n.subject;
     let f = n.finding;
     let subject = lay_subject(out, 0, s);
-    let colon = lay_word(out, subject, b": ");
+    let colon = lay_fixed(out, subject, COLON_WORD);
     let finding = lay_finding(out, colon, f);
     lay_feed(out, finding)
 }

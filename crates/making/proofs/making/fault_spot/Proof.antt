@@ -1,9 +1,11 @@
 -- Each fault by its field; a number of fewer bits is itself in 32.
 use Prim.Native.Nat.{_^_, _<_}
+use mathlib.Core.Path.{_∙_}
 use native.Mathlib.Omega.{arith}
 use mir.Facts.{toZ-pos}
 use mir.Val.{hbits}
 use mir.Syntax.{w32}
+use Rattle.making.proofs.Others.{fault-else}
 use borrow.Author.Needs.{needs}
 use Rattle.making.proofs.making.fault_spot.Statement.{statement}
 use Rattle.making.proofs.making.fault_spot.Tie as tie
@@ -38,41 +40,8 @@ cast-t7 c = search needs
 enum-told-6 : tie.Need-enum-told-6
 enum-told-6 c = search needs
 
-enum-told-7 : tie.Need-enum-told-7
-enum-told-7 c = search needs
-
-enum-told-8 : tie.Need-enum-told-8
-enum-told-8 c = search needs
-
-enum-told-9 : tie.Need-enum-told-9
-enum-told-9 c = search needs
-
-enum-told-10 : tie.Need-enum-told-10
-enum-told-10 c = search needs
-
-enum-told-11 : tie.Need-enum-told-11
-enum-told-11 c = search needs
-
-enum-told-12 : tie.Need-enum-told-12
-enum-told-12 c = search needs
-
-enum-told-13 : tie.Need-enum-told-13
-enum-told-13 c = search needs
-
-enum-told-14 : tie.Need-enum-told-14
-enum-told-14 c = search needs
-
-enum-told-15 : tie.Need-enum-told-15
-enum-told-15 c = search needs
-
-enum-told-16 : tie.Need-enum-told-16
-enum-told-16 c = search needs
-
-enum-told-17 : tie.Need-enum-told-17
-enum-told-17 c = search needs
-
-enum-told-18 : tie.Need-enum-told-18
-enum-told-18 c = search needs
+quantity-spot-requires : tie.Need-quantity-spot-requires
+quantity-spot-requires c κs = search needs
 
 returns : tie.Need-returns
 returns c = rw (c .enum-told .given .1)
@@ -101,40 +70,7 @@ returns-6 : tie.Need-returns-6
 returns-6 c = rw (c .before .enum-told6 .given .1) (search needs)
 
 returns-7 : tie.Need-returns-7
-returns-7 c = rw (c .before .enum-told7 .given .1) (search needs)
-
-returns-8 : tie.Need-returns-8
-returns-8 c = rw (c .before .enum-told8 .given .1) (search needs)
-
-returns-9 : tie.Need-returns-9
-returns-9 c = rw (c .before .enum-told9 .given .1) (search needs)
-
-returns-10 : tie.Need-returns-10
-returns-10 c = rw (c .before .enum-told10 .given .1) (search needs)
-
-returns-11 : tie.Need-returns-11
-returns-11 c = rw (c .before .enum-told11 .given .1) (search needs)
-
-returns-12 : tie.Need-returns-12
-returns-12 c = rw (c .before .enum-told12 .given .1) (search needs)
-
-returns-13 : tie.Need-returns-13
-returns-13 c = rw (c .before .enum-told13 .given .1) (search needs)
-
-returns-14 : tie.Need-returns-14
-returns-14 c = rw (c .before .enum-told14 .given .1) (search needs)
-
-returns-15 : tie.Need-returns-15
-returns-15 c = rw (c .enum-told15 .given .1)
-
-returns-16 : tie.Need-returns-16
-returns-16 c = rw (c .before .enum-told16 .given .1) (search needs)
-
-returns-17 : tie.Need-returns-17
-returns-17 c = rw (c .enum-told17 .given .1)
-
-returns-18 : tie.Need-returns-18
-returns-18 c = rw (c .enum-told18 .given .1)
+returns-7 c = c .quantity-spot .ensures ∙ fault-else (c .before .before .args .u) (c .before .before .args .fault) (c .before .match .keys7)
 
 pub fault-spot-spec : {M : Type 1} → statement M
 fault-spot-spec =
@@ -150,33 +86,11 @@ fault-spot-spec =
     enum-told-5
     cast-t7
     enum-told-6
-    enum-told-7
-    enum-told-8
-    enum-told-9
-    enum-told-10
-    enum-told-11
-    enum-told-12
-    enum-told-13
-    enum-told-14
-    enum-told-15
-    enum-told-16
-    enum-told-17
-    enum-told-18
+    quantity-spot-requires
     returns
     returns-2
     returns-3
     returns-4
     returns-5
     returns-6
-    returns-7
-    returns-8
-    returns-9
-    returns-10
-    returns-11
-    returns-12
-    returns-13
-    returns-14
-    returns-15
-    returns-16
-    returns-17
-    returns-18)
+    returns-7)

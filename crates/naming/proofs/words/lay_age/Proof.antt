@@ -6,14 +6,8 @@ use borrow.Author.Needs.{needs}
 use Rattle.naming.proofs.words.lay_age.Statement.{statement}
 use Rattle.naming.proofs.words.lay_age.Tie as tie
 
-slice-aggregate-lay-numbered : tie.Need-slice-aggregate-lay-numbered
-slice-aggregate-lay-numbered c = search needs
-
 lay-numbered-requires : tie.Need-lay-numbered-requires
 lay-numbered-requires c κs = search needs
-
-slice-aggregate-lay-numbered-2 : tie.Need-slice-aggregate-lay-numbered-2
-slice-aggregate-lay-numbered-2 c = search needs
 
 lay-numbered-requires-2 : tie.Need-lay-numbered-requires-2
 lay-numbered-requires-2 c κs = search needs
@@ -25,17 +19,10 @@ returns : tie.Need-returns
 unfolding ageWords
 returns c =
     let last = c .before .before in
-    let first = last .before .before .before .before .before in
-    let pre = first .before .before .before .before .pre in
+    let first = c .before .before .before .before .before .before in
+    let pre = c .before .before .before .before .before .before .before .before .before .pre in
     and (first .lay-numbered .ensures) (last .lay-numbered2 .ensures) (omega (arith, pre))
 
 pub lay-age-spec : {M : Type 1} → statement M
 lay-age-spec =
-    tie.close
-    (tie.spec
-    slice-aggregate-lay-numbered
-    lay-numbered-requires
-    slice-aggregate-lay-numbered-2
-    lay-numbered-requires-2
-    same-length
-    returns)
+    tie.close (tie.spec lay-numbered-requires lay-numbered-requires-2 same-length returns)

@@ -5,8 +5,8 @@ use borrow.Author.Needs.{needs}
 use Rattle.naming.proofs.words.lay_counted.Statement.{statement}
 use Rattle.naming.proofs.words.lay_counted.Tie as tie
 
-lay-word-requires : tie.Need-lay-word-requires
-lay-word-requires c κs = search needs
+lay-fixed-requires : tie.Need-lay-fixed-requires
+lay-fixed-requires c κs = search needs
 
 lay-u64-field-requires : tie.Need-lay-u64-field-requires
 lay-u64-field-requires c κs = search needs
@@ -17,10 +17,10 @@ same-length c = search needs
 returns : tie.Need-returns
 returns c =
     let last = c .before .before in
-    let first = last .before .before .before .before in
-    let pre = first .before .before .before .before .pre in
-    and (first .lay-word .ensures) (last .lay-u64-field .ensures) (omega (arith, pre))
+    let first = c .before .before .before .before .before .before in
+    let pre = c .before .before .before .before .before .before .before .before .before .pre in
+    and (first .lay-fixed .ensures) (last .lay-u64-field .ensures) (omega (arith, pre))
 
 pub lay-counted-spec : {M : Type 1} → statement M
 lay-counted-spec =
-    tie.close (tie.spec lay-word-requires lay-u64-field-requires same-length returns)
+    tie.close (tie.spec lay-fixed-requires lay-u64-field-requires same-length returns)

@@ -1,4 +1,4 @@
--- `lay_finding` meets its contract, row by row.
+-- `lay_finding` meets its contract: row by row.
 use native.Mathlib.Omega.{arith}
 use Rattle.naming.specs.Words.{findingWords, longestFinding}
 use Rattle.naming.proofs.Laying.{up}
@@ -8,9 +8,6 @@ use Rattle.naming.proofs.words.lay_finding.Tie as tie
 
 enum-known-finding : tie.Need-enum-known-finding
 enum-known-finding c = search needs
-
-slice-aggregate-lay-counted : tie.Need-slice-aggregate-lay-counted
-slice-aggregate-lay-counted c = search needs
 
 lay-counted-requires : tie.Need-lay-counted-requires
 lay-counted-requires c κs = search needs
@@ -30,20 +27,14 @@ lay-last-requires c κs = search needs
 enum-told : tie.Need-enum-told
 enum-told c = search needs
 
-slice-aggregate-lay-word : tie.Need-slice-aggregate-lay-word
-slice-aggregate-lay-word c = search needs
-
-lay-word-requires : tie.Need-lay-word-requires
-lay-word-requires c κs = search needs
+lay-fixed-requires : tie.Need-lay-fixed-requires
+lay-fixed-requires c κs = search needs
 
 enum-told-2 : tie.Need-enum-told-2
 enum-told-2 c = search needs
 
-slice-aggregate-lay-word-2 : tie.Need-slice-aggregate-lay-word-2
-slice-aggregate-lay-word-2 c = search needs
-
-lay-word-requires-2 : tie.Need-lay-word-requires-2
-lay-word-requires-2 c κs = search needs
+lay-fixed-requires-2 : tie.Need-lay-fixed-requires-2
+lay-fixed-requires-2 c κs = search needs
 
 same-length : tie.Need-same-length
 same-length c = search needs
@@ -52,8 +43,7 @@ returns : tie.Need-returns
 unfolding findingWords
 returns c =
     let last = c .before .before in
-    let arm = last .before .before .before .before in
-    rw (arm .finding .given .1) (up (last .lay-counted .ensures) longestFinding (omega arith))
+    rw (c .before .before .before .before .before .finding .given .1) (up (last .lay-counted .ensures) longestFinding (omega arith))
 
 same-length-2 : tie.Need-same-length-2
 same-length-2 c = search needs
@@ -62,8 +52,7 @@ returns-2 : tie.Need-returns-2
 unfolding findingWords
 returns-2 c =
     let last = c .before .before in
-    let arm = last .before .before .before in
-    rw (arm .finding2 .given .1) (up (last .lay-told .ensures) longestFinding (omega arith))
+    rw (c .before .before .before .before .before .finding2 .given .1) (up (last .lay-told .ensures) longestFinding (omega arith))
 
 same-length-3 : tie.Need-same-length-3
 same-length-3 c = search needs
@@ -72,8 +61,7 @@ returns-3 : tie.Need-returns-3
 unfolding findingWords
 returns-3 c =
     let last = c .before .before in
-    let arm = last .before .before .before in
-    rw (arm .finding3 .given .1) (up (last .lay-last .ensures) longestFinding (omega arith))
+    rw (c .before .before .before .before .before .finding3 .given .1) (up (last .lay-last .ensures) longestFinding (omega arith))
 
 same-length-4 : tie.Need-same-length-4
 same-length-4 c = search needs
@@ -82,8 +70,7 @@ returns-4 : tie.Need-returns-4
 unfolding findingWords
 returns-4 c =
     let last = c .before .before in
-    let arm = last .before .before .before in
-    rw (arm .enum-told .given .1) (up (last .lay-word .ensures) longestFinding (omega arith))
+    rw (c .before .before .before .before .enum-told .given .1) (up (last .lay-fixed .ensures) longestFinding (omega arith))
 
 same-length-5 : tie.Need-same-length-5
 same-length-5 c = search needs
@@ -92,26 +79,22 @@ returns-5 : tie.Need-returns-5
 unfolding findingWords
 returns-5 c =
     let last = c .before .before in
-    let arm = last .before .before .before in
-    rw (arm .enum-told2 .given .1) (up (last .lay-word2 .ensures) longestFinding (omega arith))
+    rw (c .before .before .before .before .enum-told2 .given .1) (up (last .lay-fixed2 .ensures) longestFinding (omega arith))
 
 pub lay-finding-spec : {M : Type 1} → statement M
 lay-finding-spec =
     tie.close
     (tie.spec
     enum-known-finding
-    slice-aggregate-lay-counted
     lay-counted-requires
     enum-known-finding-2
     lay-told-requires
     enum-known-finding-3
     lay-last-requires
     enum-told
-    slice-aggregate-lay-word
-    lay-word-requires
+    lay-fixed-requires
     enum-told-2
-    slice-aggregate-lay-word-2
-    lay-word-requires-2
+    lay-fixed-requires-2
     same-length
     returns
     same-length-2

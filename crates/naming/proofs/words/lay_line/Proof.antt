@@ -9,11 +9,8 @@ use Rattle.naming.proofs.words.lay_line.Tie as tie
 lay-subject-requires : tie.Need-lay-subject-requires
 lay-subject-requires c κs = search needs
 
-slice-aggregate-lay-word : tie.Need-slice-aggregate-lay-word
-slice-aggregate-lay-word c = search needs
-
-lay-word-requires : tie.Need-lay-word-requires
-lay-word-requires c κs = search needs
+lay-fixed-requires : tie.Need-lay-fixed-requires
+lay-fixed-requires c κs = search needs
 
 lay-finding-requires : tie.Need-lay-finding-requires
 lay-finding-requires c κs = search needs
@@ -28,19 +25,18 @@ returns : tie.Need-returns
 unfolding nameLine
 returns c =
     let last = c .before .before in
-    let third = last .before .before .before .before in
-    let second = third .before .before .before .before in
-    let first = second .before .before .before .before .before in
-    let pre = first .before .before .before .pre in
-    and (and (and (first .lay-subject .ensures) (second .lay-word .ensures) (omega (arith, pre))) (third .lay-finding .ensures) (omega (arith, pre))) (last .lay-feed .ensures) (omega (arith, pre))
+    let finding = c .before .before .before .before .before .before in
+    let colon = c .before .before .before .before .before .before .before .before .before .before in
+    let subject = c .before .before .before .before .before .before .before .before .before .before .before .before .before .before in
+    let pre = c .before .before .before .before .before .before .before .before .before .before .before .before .before .before .before .before .before .pre in
+    and (and (and (subject .lay-subject .ensures) (colon .lay-fixed .ensures) (omega (arith, pre))) (finding .lay-finding .ensures) (omega (arith, pre))) (last .lay-feed .ensures) (omega (arith, pre))
 
 pub lay-line-spec : {M : Type 1} → statement M
 lay-line-spec =
     tie.close
     (tie.spec
     lay-subject-requires
-    slice-aggregate-lay-word
-    lay-word-requires
+    lay-fixed-requires
     lay-finding-requires
     lay-feed-requires
     same-length

@@ -5,8 +5,8 @@ use borrow.Author.Needs.{needs}
 use Rattle.naming.proofs.words.lay_numbered.Statement.{statement}
 use Rattle.naming.proofs.words.lay_numbered.Tie as tie
 
-lay-word-requires : tie.Need-lay-word-requires
-lay-word-requires c κs = search needs
+lay-fixed-requires : tie.Need-lay-fixed-requires
+lay-fixed-requires c κs = search needs
 
 lay-plain-requires : tie.Need-lay-plain-requires
 lay-plain-requires c κs = search needs
@@ -17,10 +17,9 @@ same-length c = search needs
 returns : tie.Need-returns
 returns c =
     let last = c .before .before in
-    let first = last .before .before .before .before in
-    let pre = first .before .before .before .before .pre in
-    and (first .lay-word .ensures) (last .lay-plain .ensures) (omega (arith, pre))
+    let first = c .before .before .before .before .before .before in
+    let pre = c .before .before .before .before .before .before .before .before .before .pre in
+    and (first .lay-fixed .ensures) (last .lay-plain .ensures) (omega (arith, pre))
 
 pub lay-numbered-spec : {M : Type 1} → statement M
-lay-numbered-spec =
-    tie.close (tie.spec lay-word-requires lay-plain-requires same-length returns)
+lay-numbered-spec = tie.close (tie.spec lay-fixed-requires lay-plain-requires same-length returns)

@@ -1,0 +1,2 @@
+-- Laws of the making of a day.
+pub mod Others
