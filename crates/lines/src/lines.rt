@@ -42,11 +42,18 @@ pub const UNIT_LINE: usize = 4 + U16_FIELD + U8_FIELD + I32_FIELD * 4 + 1;
 // 2 ^ 32 does not fit 32 bits, and so the number before it stands for it.
 const ALL_BITS: u32 = 4294967295;
 
+// The table, which is lent to what lays the digits of small numbers.
+fn digit_pairs() -> [u16; 100]
+    ensures { λ r. ⌜ r ≡ digitPairs ⌝ }
+{
+    PAIRS
+}
+
 pub fn lay_day_line(out: &mut [u8], at: usize, d: DayRecord) -> usize
     requires { ⌜ at + longestDayLine ≤ length (now out) ⌝ }
     ensures { λ r. ⌜ Lays (now (out .entry)) at (dayLine d) longestDayLine r (now (out .exit)) ⌝ }
 {
-    let pairs = PAIRS;
+    let pairs = digit_pairs();
     let word = lay_word(out, at, b"DAY");
     let day = lay_u16_field(out, word, d.day, &pairs);
     let quarters = lay_u8_field(out, day, d.quarters, &pairs);
@@ -58,7 +65,7 @@ pub fn lay_end_line(out: &mut [u8], at: usize, groups: u32) -> usize
     requires { ⌜ at + longestEndLine ≤ length (now out) ⌝ }
     ensures { λ r. ⌜ Lays (now (out .entry)) at (endLine groups) longestEndLine r (now (out .exit)) ⌝ }
 {
-    let pairs = PAIRS;
+    let pairs = digit_pairs();
     let word = lay_word(out, at, b"END");
     let counted = lay_u32_field(out, word, groups, &pairs);
     lay_feed(out, counted)
@@ -68,7 +75,7 @@ pub fn lay_refused_line(out: &mut [u8], at: usize, number: u8, place: u64) -> us
     requires { ⌜ at + longestRefusedLine ≤ length (now out) ⌝ }
     ensures { λ r. ⌜ Lays (now (out .entry)) at (refusedLine number place) longestRefusedLine r (now (out .exit)) ⌝ }
 {
-    let pairs = PAIRS;
+    let pairs = digit_pairs();
     let word = lay_word(out, at, b"REFUSED");
     let numbered = lay_u8_field(out, word, number, &pairs);
     let placed = lay_u64_field(out, numbered, place);
@@ -202,7 +209,7 @@ pub fn lay_result_lines(out: &mut [u8], at: usize, result: &[u8]) -> usize
     requires { ⌜ Readable (now result) × (at + longestLines ≤ length (now out)) ⌝ }
     ensures { λ r. ⌜ Lays (now (out .entry)) at (resultLines (now (result .entry))) longestLines r (now (out .exit)) ⌝ }
 {
-    let pairs = PAIRS;
+    let pairs = digit_pairs();
     let units = lay_group_line(out, at, result, &pairs);
     lay_unit_lines(
         out,

@@ -74,7 +74,7 @@ module _ (s : List ℕ) (at : ℕ) where
         let v = w .one .value in
         let q : (v * 1000 + k) / 1000 ≡ v = omega arith in
         let r : (v * 1000 + k) % 1000 ≡ k = omega arith in
-        rw (w .value, w .next, w .read, t .0, q, r)
+        rw (w .value, w .next, w .read, t .0, t .1, q, r)
 
   pub amount-there : (h : Held) → amountOf s at ≡ is h → h .next ≤ length s
   unfolding amountOf

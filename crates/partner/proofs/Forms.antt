@@ -8,7 +8,7 @@ use borrow.Author.Tests.{le-leb, lt-leb}
 use Rattle.terms.specs.Reply.{Reply, is, refused, need, next}
 use Rattle.partner.specs.declared.fields.Held.{Held}
 use Rattle.partner.specs.Form.{numeralOf, quantityOf, unitNumberOf, formOf}
-use Rattle.partner.specs.Inner.{numberCap, quarterCap, capped, cappedKwh, cappedForm, mapped}
+use Rattle.partner.specs.Inner.{numberCap, quarterCap, capped, cappedKwh, cappedForm, mapped, quantitiesBehind}
 use Rattle.partner.proofs.Capped.{least-is, least-cap}
 use Rattle.partner.proofs.Amounts.{Whole}
 
@@ -31,11 +31,8 @@ next-each (refused n p) r q h = refl
 pub form-kept : (s : List ℕ) → mapped cappedForm (formOf s)
     ≡ next (unitNumberOf s) λ number.
     next (mapped (capped quarterCap) (numeralOf s (number .next) 59)) λ quarter.
-    next (mapped cappedKwh (quantityOf s (quarter .next) 59)) λ n.
-    next (mapped cappedKwh (quantityOf s (n .next) 59)) λ down.
-    next (mapped cappedKwh (quantityOf s (down .next) 10)) λ up.
-    is (record { number = number; quarter = quarter; n = n; «step_down» = down; «step_up» = up })
-unfolding formOf mapped
+    quantitiesBehind s number quarter
+unfolding formOf mapped quantitiesBehind
 form-kept s =
     mapped-next cappedForm (unitNumberOf s) _
     ∙ next-each (unitNumberOf s) _ _ λ number.

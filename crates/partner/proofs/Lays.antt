@@ -2,7 +2,7 @@
 use Prim.Native.Nat.{ℕ, _+_, _/_, _%_, _≤_}
 use mathlib.Core.Path.{_≡_, refl}
 use mathlib.Core.Bool.{true, false}
-use mathlib.Core.List.{List, [], _∷_, _++_}
+use mathlib.Core.List.{List, [], _∷_, _++_, append-assoc}
 use native.Mathlib.Omega.{arith}
 use lib.IntN.{ℤ, pos, negsuc, natAbs}
 use lib.ListN.{length, length-append}
@@ -14,7 +14,7 @@ use Rattle.numbers.proofs.Integers.{lt-t, lt-f}
 use Rattle.numbers.proofs.Laid.{laid-next}
 use Rattle.partner.specs.declared.line.Line.{Line}
 use Rattle.partner.specs.Line.{numeral, three, letter, quantityBytes, lineOf}
-use Rattle.partner.specs.Inner.{Lays}
+use Rattle.partner.specs.Inner.{Lays, numbersBytes, marginsBytes}
 
 -- ---- lengths
 pub numeral-long : (n stop : ℕ) → length (numeral n stop) ≡ length (decimal n) + 1
@@ -36,6 +36,11 @@ pub line-long : (l : Line)
     + length (quantityBytes (l .n .0) 59) + length (quantityBytes (l .margins .«step_down») 59) + length (quantityBytes (l .margins .«step_up») 10)
 unfolding lineOf
 line-long l = simp length-append
+
+pub line-parts : (l : Line) → length (lineOf l) ≡ length (numbersBytes (l .number) (l .quarter)) + length (quantityBytes (l .n .0) 59) + length (marginsBytes (l .margins))
+line-parts l =
+    let m = l .margins in
+    omega (arith, line-long l, length-append (numeral (l .number) 59) (numeral (l .quarter) 59), length-append (quantityBytes (m .«step_down») 59) (quantityBytes (m .«step_up») 10))
 
 pub line-few : (l : Line) → length (lineOf l) ≤ 123
 line-few l =
@@ -60,7 +65,7 @@ module _ (entry : List ℕ) (at : ℕ) where
       laid-next entry at (x ∷ y ∷ []) (at + 2) (z ∷ []) both c refl (omega arith)
 
   -- a part, and the next
-  then : {one two xs ys : List ℕ} {j r : ℕ} → Lays entry at xs j one → Lays one j ys r two → r ≤ length entry → Lays entry at (xs ++ ys) r two
+  pub then : {one two xs ys : List ℕ} {j r : ℕ} → Lays entry at xs j one → Lays one j ys r two → r ≤ length entry → Lays entry at (xs ++ ys) r two
   then {xs = xs} {ys = ys} {j} a b h =
       record {
         room = laid-next entry at xs j ys (a .room) (b .room) (a .after) (omega (arith, a .after, b .after));
@@ -76,17 +81,15 @@ module _ (entry : List ℕ) (at : ℕ) where
       let decimals = then a (record { room = b; after = refl }) (omega arith) in
       then decimals (record { room = c; after = omega arith }) (omega arith)
 
-pub line-laid : (room : List ℕ) (l : Line) {one two three four all : List ℕ} {quarter n down up end : ℕ} → length (lineOf l) ≤ length room
-    → Lays room 0 (numeral (l .number) 59) quarter one
-    → Lays one quarter (numeral (l .quarter) 59) n two
-    → Lays two n (quantityBytes (l .n .0) 59) down three
-    → Lays three down (quantityBytes (l .margins .«step_down») 59) up four
-    → Lays four up (quantityBytes (l .margins .«step_up») 10) end all
+pub line-laid : (room : List ℕ) (l : Line) {one two all : List ℕ} {n margins : ℕ} → length (lineOf l) ≤ length room
+    → Lays room 0 (numbersBytes (l .number) (l .quarter)) n one
+    → Lays one n (quantityBytes (l .n .0) 59) margins two
+    → all ≡ laidAt two margins (marginsBytes (l .margins))
     → all ≡ laidAt room 0 (lineOf l)
 unfolding lineOf
-line-laid room l h a b c d e =
-    let n = line-long l in
-    let ab = then room 0 a b (omega arith) in
-    let abc = then room 0 ab c (omega arith) in
-    let abcd = then room 0 abc d (omega arith) in
-    then room 0 abcd e (omega arith) .room
+line-laid room l {n = n} {margins} h a b c =
+    let m = l .margins in
+    let long = line-parts l in
+    let ab = then room 0 a b (omega (arith, a .after, b .after)) in
+    let abc = then room 0 ab (record { room = c; after = refl }) (omega (arith, a .after, b .after)) in
+    rw (append-assoc (numbersBytes (l .number) (l .quarter) ++ quantityBytes (l .n .0) 59) (quantityBytes (m .«step_down») 59) (quantityBytes (m .«step_up») 10)) (abc .room)

@@ -6,10 +6,10 @@ use mathlib.Core.List.{List}
 use native.Mathlib.Decide.{decLt}
 use native.Mathlib.Numerals.{add-one}
 use native.Mathlib.Omega.{arith}
-use borrow.Author.Tests.{eq-eqb, ne-eqb, lt-ltb}
+use borrow.Author.Tests.{ne-eqb, lt-ltb}
 use lib.Dec.{eqb, ltb}
 use lib.IntN.{pos, negℤ}
-use lib.ListN.{length, List·getD-eq-default}
+use lib.ListN.{length}
 use Rattle.numbers.specs.Bytes.{byteAt}
 use Rattle.numbers.specs.Choice.{pick}
 use Rattle.terms.specs.Reply.{is, refused, need, next}
@@ -17,35 +17,23 @@ use Rattle.partner.specs.declared.fields.Held.{Held}
 use Rattle.partner.specs.declared.fields.Letter.{Letter}
 use Rattle.partner.specs.declared.fields.Letter.the-variants as L
 use Rattle.partner.specs.Form.{quantity, amountOf, isLetter, quantityOf}
-use Rattle.partner.specs.Inner.{mwhCap, leastKwh, leastZ, cappedAmount, cappedKwh, mapped, letterAt, quantityBy}
+use Rattle.partner.specs.Inner.{mwhCap, leastKwh, leastZ, cappedAmount, cappedKwh, mapped, letterBy, letterAt, quantityBy}
 use Rattle.partner.proofs.Capped.{least-is, least-cap, least-most}
 use Rattle.partner.proofs.Amounts.{mapped-is, amount-there}
 
--- ---- the letter, byte by byte
-module _ (s : List ℕ) (at size stop : ℕ) where
-  unended : eqb (byteAt s (at + 1)) stop ≡ false → letterAt s at size stop ≡ L.Wrong
-  unended e = rw (e, and-false (isLetter (byteAt s at) size))
+-- ---- the letter
+module _ (b size : ℕ) where
+  pub injection : b ≡ 73 → letterBy b size ≡ L.Injection
+  injection e = rw e
 
-  pub too-short : length s < at + 2 → 1 ≤ stop → letterAt s at size stop ≡ L.Wrong
-  too-short h some =
-      let m : length s ≤ at + 1 = omega arith in
-      let z = List·getD-eq-default s 0 m in
-      unended (ne-eqb (byteAt s (at + 1)) stop (λ q. omega arith))
+  pub zero-wrong : (b ≡ 73 → ⊥) → size ≡ 0 → letterBy b size ≡ L.Wrong
+  zero-wrong n z = rw (ne-eqb b 73 n, z, and-false (eqb b 80))
 
-  pub end-wrong : (byteAt s (at + 1) ≡ stop → ⊥) → letterAt s at size stop ≡ L.Wrong
-  end-wrong n = unended (ne-eqb (byteAt s (at + 1)) stop n)
+  pub withdrawal : b ≡ 80 → 0 < size → letterBy b size ≡ L.Withdrawal
+  withdrawal e p = rw (e, lt-ltb 0 size p)
 
-  pub injection : byteAt s (at + 1) ≡ stop → byteAt s at ≡ 73 → letterAt s at size stop ≡ L.Injection
-  injection e f = rw (eq-eqb (byteAt s (at + 1)) stop e, f)
-
-  pub zero-wrong : (byteAt s at ≡ 73 → ⊥) → size ≡ 0 → letterAt s at size stop ≡ L.Wrong
-  zero-wrong n z = rw (ne-eqb (byteAt s at) 73 n, z, and-false (eqb (byteAt s at) 80))
-
-  pub withdrawal : byteAt s (at + 1) ≡ stop → byteAt s at ≡ 80 → 0 < size → letterAt s at size stop ≡ L.Withdrawal
-  withdrawal e f p = rw (eq-eqb (byteAt s (at + 1)) stop e, f, lt-ltb 0 size p)
-
-  pub other : (byteAt s at ≡ 73 → ⊥) → (byteAt s at ≡ 80 → ⊥) → letterAt s at size stop ≡ L.Wrong
-  other n m = rw (ne-eqb (byteAt s at) 73 n, ne-eqb (byteAt s at) 80 m)
+  pub other : (b ≡ 73 → ⊥) → (b ≡ 80 → ⊥) → letterBy b size ≡ L.Wrong
+  other n m = rw (ne-eqb b 73 n, ne-eqb b 80 m)
 
 -- ---- amounts at the cap
 kwh-most : (n : ℕ) → leastKwh n ≤ 1001999
@@ -76,12 +64,14 @@ module _ (s : List ℕ) (at stop : ℕ) where
 
   by-letter : (h : Held) → amountOf s at ≡ is h → mapped cappedKwh (quantityOf s at stop) ≡ quantityBy (letterAt s (h .next) (h .value) stop) (cappedAmount h)
   unfolding quantityOf next need mapped
-  by-letter h e = rw e (go (isLetter (byteAt s (h .next)) (h .value) && eqb (byteAt s (h .next + 1)) stop) (eqb (byteAt s (h .next)) 80))
+  by-letter h e = rw e (go (isLetter (byteAt s (h .next)) (h .value)) (eqb (byteAt s (h .next + 1)) stop) (eqb (byteAt s (h .next)) 80))
     where
-      go : (t u : Bool) → mapped cappedKwh (need t 20 (h .next) (is (quantity (pick u (negℤ (pos (h .value))) (pos (h .value))) (h .next + 2)))) ≡ quantityBy (pick t (pick u L.Withdrawal L.Injection) L.Wrong) (cappedAmount h)
-      go true true = rw (kwh-below (h .value))
-      go true false = refl
-      go false u = refl
+      go : (t e u : Bool) → mapped cappedKwh (need (t && e) 20 (h .next) (is (quantity (pick u (negℤ (pos (h .value))) (pos (h .value))) (h .next + 2)))) ≡ quantityBy (pick e (pick t (pick u L.Withdrawal L.Injection) L.Wrong) L.Wrong) (cappedAmount h)
+      go true true true = rw (kwh-below (h .value))
+      go true true false = refl
+      go true false u = refl
+      go false true u = refl
+      go false false u = refl
 
   pub quantity-by : (m : Held) → mapped cappedAmount (amountOf s at) ≡ is m → mapped cappedKwh (quantityOf s at stop) ≡ quantityBy (letterAt s (m .next) (m .value) stop) m
   quantity-by m e =

@@ -1,15 +1,15 @@
 -- A line read by the form with its numbers kept at the caps: refused as the form or the limits refuse it, and else the line of that form.
 use Prim.Native.Nat.{ℕ}
-use mathlib.Core.Path.{_≡_}
+use mathlib.Core.Path.{_≡_, refl, sym, _∙_}
 use mathlib.Core.List.{List}
 use Rattle.terms.specs.Reply.{Reply, is, refused, next}
 use Rattle.partner.specs.declared.form.Form.{Form}
 use Rattle.partner.specs.declared.line.LineRead.{LineRead}
 use Rattle.partner.specs.Form.{formOf}
 use Rattle.partner.specs.Line.{within, lineIn, startsIn, readOf}
-use Rattle.partner.specs.Inner.{cappedForm, mapped}
+use Rattle.partner.specs.Inner.{cappedForm, mapped, lineBy}
 use Rattle.partner.proofs.Amounts.{mapped-is}
-use Rattle.partner.proofs.Bounds.{refusing}
+use Rattle.partner.proofs.Bounds.{passing, refusing}
 use Rattle.partner.proofs.Kept.{within-kept, line-kept}
 use Rattle.partner.proofs.RoundTrip.{limited, limits-passed}
 
@@ -34,13 +34,17 @@ module _ (s : List ℕ) where
         let read : LineRead = record { line = lineIn f; used = f .«step_up» .next } in
         rw (e, limits-passed (lineIn f) (startsIn f) (is read) p, ← same, line-kept f p)
 
-  module _ (form : Form) (e : mapped cappedForm (formOf s) ≡ is form) where
-    pub limits-refused : {n p : ℕ} → within {A = ℕ} (lineIn form) (startsIn form) (is 0) ≡ refused n p → readOf s ≡ refused n p
-    limits-refused h =
-        let r = mapped-is cappedForm (formOf s) e in
-        refused-by (r .0) form (r .1 .0) (r .1 .1) h
+  pub form-passed : (form : Form) → mapped cappedForm (formOf s) ≡ is form → lineBy form ≡ readOf s
+  unfolding lineBy
+  form-passed form e = go (within (lineIn form) (startsIn form) (is 0)) refl
+    where
+      read : Reply LineRead
+      read = is (record { line = lineIn form; used = form .«step_up» .next })
 
-    pub limits-pass : {n : ℕ} → within {A = ℕ} (lineIn form) (startsIn form) (is 0) ≡ is n → readOf s ≡ is (record { line = lineIn form; used = form .«step_up» .next })
-    limits-pass h =
-        let r = mapped-is cappedForm (formOf s) e in
-        passed-by (r .0) form (r .1 .0) (r .1 .1) h
+      go : (r : Reply ℕ) → within (lineIn form) (startsIn form) (is 0) ≡ r → within (lineIn form) (startsIn form) read ≡ readOf s
+      go (is n) h =
+          let r = mapped-is cappedForm (formOf s) e in
+          passing (lineIn form) (startsIn form) read h ∙ sym (passed-by (r .0) form (r .1 .0) (r .1 .1) h)
+      go (refused n p) h =
+          let r = mapped-is cappedForm (formOf s) e in
+          refusing (lineIn form) (startsIn form) read h ∙ sym (refused-by (r .0) form (r .1 .0) (r .1 .1) h)

@@ -1,15 +1,12 @@
 // The kinds of field of a line. A number of any length is read to its end and kept at no more than a cap, so that nothing wraps.
 ghost use mathlib.Core.Path.{_≡_};
+ghost use mathlib.Core.List.{[], _∷_};
 ghost use Prim.Native.Nat.{_+_, _≤_, _<_};
 ghost use lib.ListN.{length};
-ghost use Rattle.terms.specs.declared.refusal.Why.the-variants as W;
 ghost use Rattle.partner.specs.Form.{numeralOf, amountOf, quantityOf};
-ghost use Rattle.partner.specs.Inner.{least, numberCap, capped, cappedAmount, cappedKwh, mapped, Digits, Opens, Stops, Ended, decimalsOr, letterAt, quantityBy, heldReply, heldRefusal, quantityReply, quantityRefusal};
+ghost use Rattle.partner.specs.Inner.{least, numberCap, capped, cappedAmount, cappedKwh, mapped, Digits, Opens, Stops, Ended, digitsOr, decimalsOr, letterBy, letterAt, quantityBy, heldReply, heldPlace, quantityReply, quantityPlace};
 use numbers::bytes::byte;
 use numbers::decimal::digit_of;
-use terms::refusal::Refusal;
-use terms::refusal::Why;
-use terms::refusal::no_refusal;
 
 pub const SEMICOLON: u8 = 59;
 
@@ -33,18 +30,20 @@ pub struct Held {
     pub next: usize,
 }
 
+// A number that was read, or the place of a field that is not in its form.
 pub enum HeldAnswer {
     Is(Held),
-    Refused(Refusal),
+    Wrong(usize),
 }
 
 impl HeldAnswer {
-    pub fn refusal(self) -> Refusal
-        ensures { λ r. ⌜ r ≡ heldRefusal self ⌝ }
+    // Where the field is wrong: `let .. else` does not bind it.
+    pub fn place(self) -> usize
+        ensures { λ r. ⌜ r ≡ heldPlace self ⌝ }
     {
         match self {
-            HeldAnswer::Is(_) => no_refusal(),
-            HeldAnswer::Refused(r) => r,
+            HeldAnswer::Is(_) => 0,
+            HeldAnswer::Wrong(place) => place,
         }
     }
 }
@@ -62,29 +61,20 @@ pub enum Letter {
     Wrong,
 }
 
+// Such a quantity, or the place of a field that is not in its form.
 pub enum QuantityAnswer {
     Is(Quantity),
-    Refused(Refusal),
+    Wrong(usize),
 }
 
 impl QuantityAnswer {
-    pub fn refusal(self) -> Refusal
-        ensures { λ r. ⌜ r ≡ quantityRefusal self ⌝ }
+    pub fn place(self) -> usize
+        ensures { λ r. ⌜ r ≡ quantityPlace self ⌝ }
     {
         match self {
-            QuantityAnswer::Is(_) => no_refusal(),
-            QuantityAnswer::Refused(r) => r,
+            QuantityAnswer::Is(_) => 0,
+            QuantityAnswer::Wrong(place) => place,
         }
-    }
-}
-
-// A field that is not in its form.
-pub fn wrong(place: usize) -> Refusal
-    ensures { λ r. ⌜ r ≡ record { why = W.Line; place = place } ⌝ }
-{
-    Refusal {
-        why: Why::Line,
-        place,
     }
 }
 
@@ -136,12 +126,12 @@ pub fn numeral_at(s: &[u8], at: usize, cap: u32, stop: u8) -> HeldAnswer
 {
     let first = digit_of(byte(s, at));
     if 9 < first {
-        return HeldAnswer::Refused(wrong(at));
+        return HeldAnswer::Wrong(at);
     }
     let number = numeral_from(s, at, first, cap);
     let end = number.next;
     if byte(s, end) != stop {
-        return HeldAnswer::Refused(wrong(at));
+        return HeldAnswer::Wrong(at);
     }
     HeldAnswer::Is(Held {
         value: number.value,
@@ -149,30 +139,34 @@ pub fn numeral_at(s: &[u8], at: usize, cap: u32, stop: u8) -> HeldAnswer
     })
 }
 
+// The number of three digits; where one of them is none, a number above 999.
+fn three_digits(first: u8, second: u8, third: u8) -> u32
+    ensures { λ r. ⌜ r ≡ digitsOr (first ∷ second ∷ third ∷ []) ⌝ }
+{
+    let hundreds = digit_of(first);
+    if 9 < hundreds {
+        return NONE;
+    }
+    let tens = digit_of(second);
+    if 9 < tens {
+        return NONE;
+    }
+    let ones = digit_of(third);
+    if 9 < ones {
+        return NONE;
+    }
+    (hundreds * 10 + tens) * 10 + ones
+}
+
 // The number of three digits that a semicolon ends; where they are not there, a number above 999.
 fn decimals_at(s: &[u8], at: usize) -> u32
     requires { ⌜ at ≤ length (now s) ⌝ }
     ensures { λ r. ⌜ r ≡ decimalsOr (now (s .entry)) at ⌝ }
 {
-    if s.len() < at + 4 {
+    if byte(s, at + 3) != SEMICOLON {
         return NONE;
     }
-    let hundreds = digit_of(s[at]);
-    if 9 < hundreds {
-        return NONE;
-    }
-    let tens = digit_of(s[at + 1]);
-    if 9 < tens {
-        return NONE;
-    }
-    let ones = digit_of(s[at + 2]);
-    if 9 < ones {
-        return NONE;
-    }
-    if s[at + 3] != SEMICOLON {
-        return NONE;
-    }
-    (hundreds * 10 + tens) * 10 + ones
+    three_digits(byte(s, at), byte(s, at + 1), byte(s, at + 2))
 }
 
 // An amount: MWh with a comma and three decimals, as kWh.
@@ -186,7 +180,7 @@ fn amount_at(s: &[u8], at: usize) -> HeldAnswer
     let decimals = mwh.next;
     let part = decimals_at(s, decimals);
     if 999 < part {
-        return HeldAnswer::Refused(wrong(at));
+        return HeldAnswer::Wrong(at);
     }
     HeldAnswer::Is(Held {
         value: mwh.value * 1000 + part,
@@ -194,18 +188,10 @@ fn amount_at(s: &[u8], at: usize) -> HeldAnswer
     })
 }
 
-// The letter at a place and the byte that ends its field: the direction of an amount of this size.
-fn letter_at(s: &[u8], at: usize, size: u32, stop: u8) -> Letter
-    requires { ⌜ (at ≤ length (now s)) × (1 ≤ stop) ⌝ }
-    ensures { λ r. ⌜ r ≡ letterAt (now (s .entry)) at size stop ⌝ }
+// The direction that a letter gives to an amount of this size.
+fn letter_by(letter: u8, size: u32) -> Letter
+    ensures { λ r. ⌜ r ≡ letterBy letter size ⌝ }
 {
-    if s.len() < at + 2 {
-        return Letter::Wrong;
-    }
-    if s[at + 1] != stop {
-        return Letter::Wrong;
-    }
-    let letter = s[at];
     if letter == INJECTION {
         return Letter::Injection;
     }
@@ -216,6 +202,17 @@ fn letter_at(s: &[u8], at: usize, size: u32, stop: u8) -> Letter
         return Letter::Withdrawal;
     }
     Letter::Wrong
+}
+
+// The letter at a place and the byte that ends its field: the direction of an amount of this size.
+fn letter_at(s: &[u8], at: usize, size: u32, stop: u8) -> Letter
+    requires { ⌜ at ≤ length (now s) ⌝ }
+    ensures { λ r. ⌜ r ≡ letterAt (now (s .entry)) at size stop ⌝ }
+{
+    if byte(s, at + 1) != stop {
+        return Letter::Wrong;
+    }
+    letter_by(byte(s, at), size)
 }
 
 // An amount with the sign that its letter tells.
@@ -233,18 +230,17 @@ fn signed_by(letter: Letter, size: Held) -> QuantityAnswer
             kwh: -kwh,
             next: size.next + 2,
         }),
-        Letter::Wrong => QuantityAnswer::Refused(wrong(size.next)),
+        Letter::Wrong => QuantityAnswer::Wrong(size.next),
     }
 }
 
 // An amount and its letter.
 pub fn quantity_at(s: &[u8], at: usize, stop: u8) -> QuantityAnswer
-    requires { ⌜ 1 ≤ stop ⌝ }
     ensures { λ r. ⌜ quantityReply r ≡ mapped cappedKwh (quantityOf (now (s .entry)) at stop) ⌝ }
 {
     let answer = amount_at(s, at);
     let HeldAnswer::Is(size) = answer else {
-        return QuantityAnswer::Refused(answer.refusal());
+        return QuantityAnswer::Wrong(answer.place());
     };
     signed_by(letter_at(s, size.next, size.value, stop), size)
 }

@@ -1,7 +1,7 @@
 // The eight fields of a line, judged for their form: the first that is wrong ends the reading.
 ghost use mathlib.Core.Path.{_≡_};
 ghost use Rattle.partner.specs.Form.{unitNumberOf, formOf};
-ghost use Rattle.partner.specs.Inner.{cappedForm, mapped, heldReply, formReply, formRefusal};
+ghost use Rattle.partner.specs.Inner.{cappedForm, mapped, quantitiesBehind, heldReply, formReply, formPlace};
 use crate::fields::Held;
 use crate::fields::HeldAnswer;
 use crate::fields::LINE_FEED;
@@ -10,10 +10,7 @@ use crate::fields::QuantityAnswer;
 use crate::fields::SEMICOLON;
 use crate::fields::numeral_at;
 use crate::fields::quantity_at;
-use crate::fields::wrong;
 use records::day::DayRecord;
-use terms::refusal::Refusal;
-use terms::refusal::no_refusal;
 
 // The largest number of a unit.
 const LARGEST: u32 = 65535;
@@ -27,18 +24,19 @@ pub struct Form {
     pub step_up: Quantity,
 }
 
+// The values, or the place of the first field that is not in its form.
 pub enum FormAnswer {
     Is(Form),
-    Refused(Refusal),
+    Wrong(usize),
 }
 
 impl FormAnswer {
-    pub fn refusal(self) -> Refusal
-        ensures { λ r. ⌜ r ≡ formRefusal self ⌝ }
+    pub fn place(self) -> usize
+        ensures { λ r. ⌜ r ≡ formPlace self ⌝ }
     {
         match self {
-            FormAnswer::Is(_) => no_refusal(),
-            FormAnswer::Refused(r) => r,
+            FormAnswer::Is(_) => 0,
+            FormAnswer::Wrong(place) => place,
         }
     }
 }
@@ -51,33 +49,26 @@ fn unit_number(s: &[u8]) -> HeldAnswer
         return answer;
     };
     if LARGEST < number.value {
-        return HeldAnswer::Refused(wrong(0));
+        return HeldAnswer::Wrong(0);
     }
     HeldAnswer::Is(number)
 }
 
-pub fn form_of(s: &[u8]) -> FormAnswer
-    ensures { λ r. ⌜ formReply r ≡ mapped cappedForm (formOf (now (s .entry))) ⌝ }
+// A line's three quantities, behind its two numbers.
+fn quantities_behind(s: &[u8], number: Held, quarter: Held) -> FormAnswer
+    ensures { λ r. ⌜ formReply r ≡ quantitiesBehind (now (s .entry)) number quarter ⌝ }
 {
-    let of_number = unit_number(s);
-    let HeldAnswer::Is(number) = of_number else {
-        return FormAnswer::Refused(of_number.refusal());
-    };
-    let of_quarter = numeral_at(s, number.next, DayRecord::AUTUMN as u32, SEMICOLON);
-    let HeldAnswer::Is(quarter) = of_quarter else {
-        return FormAnswer::Refused(of_quarter.refusal());
-    };
     let of_n = quantity_at(s, quarter.next, SEMICOLON);
     let QuantityAnswer::Is(n) = of_n else {
-        return FormAnswer::Refused(of_n.refusal());
+        return FormAnswer::Wrong(of_n.place());
     };
     let of_down = quantity_at(s, n.next, SEMICOLON);
     let QuantityAnswer::Is(step_down) = of_down else {
-        return FormAnswer::Refused(of_down.refusal());
+        return FormAnswer::Wrong(of_down.place());
     };
     let of_up = quantity_at(s, step_down.next, LINE_FEED);
     let QuantityAnswer::Is(step_up) = of_up else {
-        return FormAnswer::Refused(of_up.refusal());
+        return FormAnswer::Wrong(of_up.place());
     };
     FormAnswer::Is(Form {
         number,
@@ -86,4 +77,18 @@ pub fn form_of(s: &[u8]) -> FormAnswer
         step_down,
         step_up,
     })
+}
+
+pub fn form_of(s: &[u8]) -> FormAnswer
+    ensures { λ r. ⌜ formReply r ≡ mapped cappedForm (formOf (now (s .entry))) ⌝ }
+{
+    let of_number = unit_number(s);
+    let HeldAnswer::Is(number) = of_number else {
+        return FormAnswer::Wrong(of_number.place());
+    };
+    let of_quarter = numeral_at(s, number.next, DayRecord::AUTUMN as u32, SEMICOLON);
+    let HeldAnswer::Is(quarter) = of_quarter else {
+        return FormAnswer::Wrong(of_quarter.place());
+    };
+    quantities_behind(s, number, quarter)
 }

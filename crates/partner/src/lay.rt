@@ -5,7 +5,7 @@ ghost use Prim.Native.Nat.{_+_, _≤_, _<_};
 ghost use lib.ListN.{length};
 ghost use Rattle.numbers.specs.Bytes.{laidAt};
 ghost use Rattle.partner.specs.Line.{numeral, three, letter, quantityBytes, lineOf};
-ghost use Rattle.partner.specs.Inner.{Lays};
+ghost use Rattle.partner.specs.Inner.{Lays, numbersBytes, marginsBytes};
 use crate::fields::COMMA;
 use crate::fields::INJECTION;
 use crate::fields::LINE_FEED;
@@ -17,6 +17,7 @@ use numbers::decimal::ZERO;
 use numbers::decimal::lay_digits;
 use numbers::decimal::long_count;
 use numbers::signed::magnitude;
+use terms::quantity::Margins;
 
 // A number and the byte that ends it.
 fn lay_numeral(room: &mut [u8], at: usize, n: u32, stop: u8) -> usize
@@ -70,14 +71,30 @@ fn lay_quantity(room: &mut [u8], at: usize, z: i32, stop: u8) -> usize
     decimals + 6
 }
 
+// The unit's number and the quarter, which open a line.
+fn lay_numbers(room: &mut [u8], number: u16, quarter: u8) -> usize
+    requires { ⌜ length (numbersBytes number quarter) ≤ length (now room) ⌝ }
+    ensures { λ r. ⌜ Lays (now (room .entry)) 0 (numbersBytes number quarter) r (now (room .exit)) ⌝ }
+{
+    let next = lay_numeral(room, 0, number as u32, SEMICOLON);
+    lay_numeral(room, next, quarter as u32, SEMICOLON)
+}
+
+// The margins, which end it.
+fn lay_margins(room: &mut [u8], at: usize, m: Margins)
+    requires { ⌜ at + length (marginsBytes m) ≤ length (now room) ⌝ }
+    ensures { λ _. ⌜ now (room .exit) ≡ laidAt (now (room .entry)) at (marginsBytes m) ⌝ }
+{
+    let step_up = lay_quantity(room, at, m.step_down, SEMICOLON);
+    lay_quantity(room, step_up, m.step_up, LINE_FEED);
+}
+
 // The bytes of a line that passes its limits.
 pub fn lay_line(room: &mut [u8], l: Line)
     requires { ⌜ length (lineOf l) ≤ length (now room) ⌝ }
     ensures { λ _. ⌜ now (room .exit) ≡ laidAt (now (room .entry)) 0 (lineOf l) ⌝ }
 {
-    let quarter = lay_numeral(room, 0, l.number as u32, SEMICOLON);
-    let n = lay_numeral(room, quarter, l.quarter as u32, SEMICOLON);
-    let step_down = lay_quantity(room, n, l.n.0, SEMICOLON);
-    let step_up = lay_quantity(room, step_down, l.margins.step_down, SEMICOLON);
-    lay_quantity(room, step_up, l.margins.step_up, LINE_FEED);
+    let n = lay_numbers(room, l.number, l.quarter);
+    let margins = lay_quantity(room, n, l.n.0, SEMICOLON);
+    lay_margins(room, margins, l.margins);
 }

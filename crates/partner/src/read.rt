@@ -1,7 +1,9 @@
 // The line at the front of some bytes.
 ghost use mathlib.Core.Path.{_≡_};
 ghost use Prim.Native.Nat.{_≤_};
+ghost use Rattle.terms.specs.declared.refusal.Why.the-variants as W;
 ghost use Rattle.partner.specs.Line.{lineIn, startsIn, readOf, lineReply};
+ghost use Rattle.partner.specs.Inner.{lineBy};
 use crate::form::Form;
 use crate::form::FormAnswer;
 use crate::form::form_of;
@@ -13,6 +15,8 @@ use crate::line::LineRead;
 use terms::quantity::Margins;
 use terms::quantity::Nomination;
 use terms::refusal::Answer;
+use terms::refusal::Refusal;
+use terms::refusal::Why;
 
 fn line_in(f: Form) -> Line
     requires { ⌜ (f .number .value ≤ 65535) × (f .quarter .value ≤ 255) ⌝ }
@@ -40,21 +44,39 @@ fn starts_in(f: Form) -> Places
     }
 }
 
+// A line whose fields are in their form, by its limits.
+fn line_by(f: Form) -> LineAnswer
+    requires { ⌜ (f .number .value ≤ 65535) × (f .quarter .value ≤ 255) ⌝ }
+    ensures { λ r. ⌜ lineReply r ≡ lineBy f ⌝ }
+{
+    let line = line_in(f);
+    let held = limits(line, starts_in(f));
+    let Answer::Is(_) = held else {
+        return LineAnswer::Refused(held.refusal());
+    };
+    LineAnswer::Is(LineRead {
+        line,
+        used: f.step_up.next,
+    })
+}
+
+// A field that is not in its form.
+fn wrong(place: usize) -> LineAnswer
+    ensures { λ r. ⌜ r ≡ LineAnswer.Refused (record { why = W.Line; place = place }) ⌝ }
+{
+    LineAnswer::Refused(Refusal {
+        why: Why::Line,
+        place,
+    })
+}
+
 // Bytes after its line feed are not read.
 pub fn read_line(s: &[u8]) -> LineAnswer
     ensures { λ r. ⌜ lineReply r ≡ readOf (now (s .entry)) ⌝ }
 {
     let answer = form_of(s);
     let FormAnswer::Is(form) = answer else {
-        return LineAnswer::Refused(answer.refusal());
+        return wrong(answer.place());
     };
-    let line = line_in(form);
-    let held = limits(line, starts_in(form));
-    let Answer::Is(_) = held else {
-        return LineAnswer::Refused(held.refusal());
-    };
-    LineAnswer::Is(LineRead {
-        line,
-        used: form.step_up.next,
-    })
+    line_by(form)
 }

@@ -1,7 +1,7 @@
 // A line written at the front of a room.
 ghost use mathlib.Core.Path.{_≡_};
 ghost use lib.ListN.{length};
-ghost use Rattle.partner.specs.Line.{quantityBytes, lineOf, LineWritten};
+ghost use Rattle.partner.specs.Line.{quantityBytes, lineOf, atZero, LineWritten};
 use crate::lay::lay_line;
 use crate::limits::Places;
 use crate::limits::limits;
@@ -32,17 +32,23 @@ fn line_length(l: Line) -> usize
     front + n + step_down + step_up
 }
 
-// The limits, then the room.
-pub fn write_line(l: Line, room: &mut [u8]) -> Answer
-    ensures { λ r. ⌜ LineWritten l (now (room .entry)) r (now (room .exit)) ⌝ }
+// A writer's places.
+fn at_zero() -> Places
+    ensures { λ r. ⌜ r ≡ atZero ⌝ }
 {
-    let at = Places {
+    Places {
         quarter: 0,
         n: 0,
         step_down: 0,
         step_up: 0,
-    };
-    let held = limits(l, at);
+    }
+}
+
+// The limits, then the room.
+pub fn write_line(l: Line, room: &mut [u8]) -> Answer
+    ensures { λ r. ⌜ LineWritten l (now (room .entry)) r (now (room .exit)) ⌝ }
+{
+    let held = limits(l, at_zero());
     let Answer::Is(_) = held else {
         return held;
     };

@@ -160,6 +160,22 @@ fn made_at(s: &[u8], run: u32, limit: u16) -> NumberAnswer
     })
 }
 
+// The fields that are judged behind its quarter and its count, which are handed on.
+fn fields_behind(s: &[u8], day: DayRecord, last: Last, quarter: u8, count: u8) -> GroupAnswer
+    requires { ⌜ (groupLength ≤ length (now s)) × ((quarter ≡ groupAt (now s) 0 .quarter) × (count ≡ groupAt (now s) 0 .count)) ⌝ }
+    ensures { λ r. ⌜ groupReply r ≡ need (follows last (keyOf (groupAt (now (s .entry)) 0))) 13 (groupBrp .place) (need (aged (day .run) (groupAt (now (s .entry)) 0 .made) (day .«position_limit»)) (numberOf (positionWhy (day .run) (groupAt (now (s .entry)) 0 .made))) (groupMade .place) (is (groupAt (now (s .entry)) 0))) ⌝ }
+{
+    let k = key_at(s, last);
+    let KeyAnswer::Is(key) = k else {
+        return GroupAnswer::Refused(k.refusal());
+    };
+    let m = made_at(s, day.run, day.position_limit);
+    let NumberAnswer::Is(made) = m else {
+        return GroupAnswer::Refused(m.refusal());
+    };
+    GroupAnswer::Is(GroupRecord::new(key.brp, key.zone, quarter, count, made))
+}
+
 // The fields of a group record that is there whole, as the next one of a day.
 pub fn group_fields(s: &[u8], day: DayRecord, last: Last) -> GroupAnswer
     requires { ⌜ groupLength ≤ length (now s) ⌝ }
@@ -173,15 +189,7 @@ pub fn group_fields(s: &[u8], day: DayRecord, last: Last) -> GroupAnswer
     let ByteAnswer::Is(count) = n else {
         return GroupAnswer::Refused(n.refusal());
     };
-    let k = key_at(s, last);
-    let KeyAnswer::Is(key) = k else {
-        return GroupAnswer::Refused(k.refusal());
-    };
-    let m = made_at(s, day.run, day.position_limit);
-    let NumberAnswer::Is(made) = m else {
-        return GroupAnswer::Refused(m.refusal());
-    };
-    GroupAnswer::Is(GroupRecord::new(key.brp, key.zone, quarter, count, made))
+    fields_behind(s, day, last, quarter, count)
 }
 
 // The group record at the front of the bytes.

@@ -1,10 +1,12 @@
 // What a line is: its word, and the record that its fields make.
 ghost use mathlib.Core.Path.{_≡_};
-ghost use mathlib.Core.Bool.{true, _&&_};
+ghost use mathlib.Core.Bool.{true, false, _&&_};
 ghost use Prim.Native.Nat.{_≤_};
 ghost use lib.Dec.{eqb};
 ghost use lib.ListN.{length};
-ghost use Rattle.text.specs.Line.{same, dayLineOf, groupLineOf, endsOf, unitLineOf, endLineOf, fieldsOf, recordOf, uncommented, bareLength, bareOf, markLength, lineOf, listedFields, listedOf};
+ghost use Rattle.records.specs.Layouts.{withEnds, unitKind, intervalKind};
+ghost use Rattle.text.specs.Fields.{overAt};
+ghost use Rattle.text.specs.Line.{same, ended, dayLineOf, groupLineOf, endsOf, unitLineOf, endLineOf, fieldsOf, recordOf, uncommented, bareLength, bareOf, markLength, lineOf, listedFields, listedOf};
 pub use crate::fields::Field;
 use crate::fields::day_at;
 use crate::fields::field_at;
@@ -110,6 +112,27 @@ fn group_in(text: &[u8], word: Field) -> Line
     ))
 }
 
+// An 04h, where nothing stands after its ends.
+fn interval_of(u: UnitRecord, lower: i32, upper: i32, last: Field) -> Line
+    ensures { λ r. ⌜ r ≡ ended unitKind last (Line.Unit (withEnds u intervalKind lower upper)) ⌝ }
+{
+    if !last.good {
+        return Line::Not(UnitRecord::KIND, last);
+    }
+    Line::Unit(u.with_ends(UnitRecord::INTERVAL_KIND, lower, upper))
+}
+
+// The ends of a unit after whose nine values something stands.
+fn interval_in(text: &[u8], made: Field, u: UnitRecord) -> Line
+    requires { ⌜ overAt (now text) 10 made .good ≡ false ⌝ }
+    ensures { λ r. ⌜ r ≡ endsOf (now (text .entry)) made u ⌝ }
+{
+    let lower = i32_at(text, 10, made);
+    let upper = i32_at(text, 11, lower.field);
+    let last = over_at(text, 12, upper.field);
+    interval_of(u, lower.value, upper.value, last)
+}
+
 // The nine values of a unit are a 03h where nothing stands after them; else two ends follow, and they are an 04h.
 fn ends_in(text: &[u8], made: Field, u: UnitRecord) -> Line
     ensures { λ r. ⌜ r ≡ endsOf (now (text .entry)) made u ⌝ }
@@ -118,13 +141,7 @@ fn ends_in(text: &[u8], made: Field, u: UnitRecord) -> Line
     if plain.good {
         return Line::Unit(u);
     }
-    let lower = i32_at(text, 10, made);
-    let upper = i32_at(text, 11, lower.field);
-    let last = over_at(text, 12, upper.field);
-    if !last.good {
-        return Line::Not(UnitRecord::KIND, last);
-    }
-    Line::Unit(u.with_ends(UnitRecord::INTERVAL_KIND, lower.value, upper.value))
+    interval_in(text, made, u)
 }
 
 fn unit_in(text: &[u8], word: Field) -> Line

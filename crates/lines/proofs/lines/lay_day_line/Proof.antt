@@ -1,15 +1,15 @@
 -- `lay_day_line` meets its contract: its parts stand one behind another.
 use Prim.Native.Nat.{_+_}
-use mathlib.Core.Path.{refl}
 use native.Mathlib.Omega.{arith}
-use Rattle.numbers.specs.Column.{column}
-use Rattle.lines.specs.Inner.{digitPairs}
 use denote.Ref.{now}
 use Rattle.lines.specs.Lines.{spaced, line, dayLine, u8Field, u16Field, u32Field}
 use Rattle.lines.proofs.Parts.{then}
 use borrow.Author.Needs.{needs}
 use Rattle.lines.proofs.lines.lay_day_line.Statement.{statement}
 use Rattle.lines.proofs.lines.lay_day_line.Tie as tie
+
+digit-pairs-requires : tie.Need-digit-pairs-requires
+digit-pairs-requires c κs = search needs
 
 slice-aggregate-lay-word : tie.Need-slice-aggregate-lay-word
 slice-aggregate-lay-word c = search needs
@@ -21,22 +21,25 @@ slice-aggregate-lay-u16-field : tie.Need-slice-aggregate-lay-u16-field
 slice-aggregate-lay-u16-field c = search needs
 
 lay-u16-field-requires : tie.Need-lay-u16-field-requires
-unfolding digitPairs column
-lay-u16-field-requires c κs = (search needs, refl)
+lay-u16-field-requires c κs =
+    let told = c .before .before .before .before .before .before .before in
+    (search needs, told .digit-pairs .ensures)
 
 slice-aggregate-lay-u8-field : tie.Need-slice-aggregate-lay-u8-field
 slice-aggregate-lay-u8-field c = search needs
 
 lay-u8-field-requires : tie.Need-lay-u8-field-requires
-unfolding digitPairs column
-lay-u8-field-requires c κs = (search needs, refl)
+lay-u8-field-requires c κs =
+    let told = c .before .before .before .before .before .before .before .before .before .before .before .before in
+    (search needs, told .digit-pairs .ensures)
 
 slice-aggregate-lay-u32-field : tie.Need-slice-aggregate-lay-u32-field
 slice-aggregate-lay-u32-field c = search needs
 
 lay-u32-field-requires : tie.Need-lay-u32-field-requires
-unfolding digitPairs column
-lay-u32-field-requires c κs = (search needs, refl)
+lay-u32-field-requires c κs =
+    let told = c .before .before .before .before .before .before .before .before .before .before .before .before .before .before .before .before .before in
+    (search needs, told .digit-pairs .ensures)
 
 lay-feed-requires : tie.Need-lay-feed-requires
 lay-feed-requires c κs = search needs
@@ -52,7 +55,7 @@ returns c =
     let quarters = run .before .before .before .before .before in
     let day = quarters .before .before .before .before .before in
     let word = day .before .before .before .before .before in
-    let s = word .before .before .before .before in
+    let s = word .before .before .before .before .before in
     let a = s .args in
     let out = now (a .out) in
     let i = a .at in
@@ -65,6 +68,7 @@ pub lay-day-line-spec : {M : Type 1} → statement M
 lay-day-line-spec =
     tie.close
     (tie.spec
+    digit-pairs-requires
     slice-aggregate-lay-word
     lay-word-requires
     slice-aggregate-lay-u16-field

@@ -1,15 +1,15 @@
 -- `lay_end_line` meets its contract: its parts stand one behind another.
 use Prim.Native.Nat.{_+_}
-use mathlib.Core.Path.{refl}
 use native.Mathlib.Omega.{arith}
-use Rattle.numbers.specs.Column.{column}
-use Rattle.lines.specs.Inner.{digitPairs}
 use denote.Ref.{now}
 use Rattle.lines.specs.Lines.{spaced, line, endLine, u32Field}
 use Rattle.lines.proofs.Parts.{then}
 use borrow.Author.Needs.{needs}
 use Rattle.lines.proofs.lines.lay_end_line.Statement.{statement}
 use Rattle.lines.proofs.lines.lay_end_line.Tie as tie
+
+digit-pairs-requires : tie.Need-digit-pairs-requires
+digit-pairs-requires c κs = search needs
 
 slice-aggregate-lay-word : tie.Need-slice-aggregate-lay-word
 slice-aggregate-lay-word c = search needs
@@ -21,8 +21,9 @@ slice-aggregate-lay-u32-field : tie.Need-slice-aggregate-lay-u32-field
 slice-aggregate-lay-u32-field c = search needs
 
 lay-u32-field-requires : tie.Need-lay-u32-field-requires
-unfolding digitPairs column
-lay-u32-field-requires c κs = (search needs, refl)
+lay-u32-field-requires c κs =
+    let told = c .before .before .before .before .before .before .before in
+    (search needs, told .digit-pairs .ensures)
 
 lay-feed-requires : tie.Need-lay-feed-requires
 lay-feed-requires c κs = search needs
@@ -36,7 +37,7 @@ returns c =
     let feed = c .before .before in
     let counted = feed .before .before .before .before in
     let word = counted .before .before .before .before .before in
-    let s = word .before .before .before .before in
+    let s = word .before .before .before .before .before in
     let a = s .args in
     let out = now (a .out) in
     let i = a .at in
@@ -47,6 +48,7 @@ pub lay-end-line-spec : {M : Type 1} → statement M
 lay-end-line-spec =
     tie.close
     (tie.spec
+    digit-pairs-requires
     slice-aggregate-lay-word
     lay-word-requires
     slice-aggregate-lay-u32-field

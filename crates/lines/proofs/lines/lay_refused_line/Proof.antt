@@ -1,15 +1,15 @@
 -- `lay_refused_line` meets its contract: its parts stand one behind another.
 use Prim.Native.Nat.{_+_}
-use mathlib.Core.Path.{refl}
 use native.Mathlib.Omega.{arith}
-use Rattle.numbers.specs.Column.{column}
-use Rattle.lines.specs.Inner.{digitPairs}
 use denote.Ref.{now}
 use Rattle.lines.specs.Lines.{spaced, line, refusedLine, u8Field, u64Field}
 use Rattle.lines.proofs.Parts.{then}
 use borrow.Author.Needs.{needs}
 use Rattle.lines.proofs.lines.lay_refused_line.Statement.{statement}
 use Rattle.lines.proofs.lines.lay_refused_line.Tie as tie
+
+digit-pairs-requires : tie.Need-digit-pairs-requires
+digit-pairs-requires c κs = search needs
 
 slice-aggregate-lay-word : tie.Need-slice-aggregate-lay-word
 slice-aggregate-lay-word c = search needs
@@ -21,8 +21,9 @@ slice-aggregate-lay-u8-field : tie.Need-slice-aggregate-lay-u8-field
 slice-aggregate-lay-u8-field c = search needs
 
 lay-u8-field-requires : tie.Need-lay-u8-field-requires
-unfolding digitPairs column
-lay-u8-field-requires c κs = (search needs, refl)
+lay-u8-field-requires c κs =
+    let told = c .before .before .before .before .before .before .before in
+    (search needs, told .digit-pairs .ensures)
 
 lay-u64-field-requires : tie.Need-lay-u64-field-requires
 lay-u64-field-requires c κs = search needs
@@ -40,7 +41,7 @@ returns c =
     let placed = feed .before .before .before .before in
     let numbered = placed .before .before .before .before in
     let word = numbered .before .before .before .before .before in
-    let s = word .before .before .before .before in
+    let s = word .before .before .before .before .before in
     let a = s .args in
     let out = now (a .out) in
     let i = a .at in
@@ -52,6 +53,7 @@ pub lay-refused-line-spec : {M : Type 1} → statement M
 lay-refused-line-spec =
     tie.close
     (tie.spec
+    digit-pairs-requires
     slice-aggregate-lay-word
     lay-word-requires
     slice-aggregate-lay-u8-field

@@ -1,9 +1,6 @@
 -- `lay_result_lines` meets its contract: the units' lines stand behind the group's.
 use Prim.Native.Nat.{_+_, _*_}
-use mathlib.Core.Path.{refl}
 use native.Mathlib.Omega.{arith}
-use Rattle.numbers.specs.Column.{column}
-use Rattle.lines.specs.Inner.{digitPairs}
 use denote.Ref.{now}
 use Rattle.numbers.specs.Bytes.{byteAt}
 use Rattle.records.specs.Layouts.{resultCount, groupResultAt}
@@ -13,12 +10,16 @@ use borrow.Author.Needs.{needs}
 use Rattle.lines.proofs.lines.lay_result_lines.Statement.{statement}
 use Rattle.lines.proofs.lines.lay_result_lines.Tie as tie
 
+digit-pairs-requires : tie.Need-digit-pairs-requires
+digit-pairs-requires c κs = search needs
+
 slice-aggregate-lay-group-line : tie.Need-slice-aggregate-lay-group-line
 slice-aggregate-lay-group-line c = search needs
 
 lay-group-line-requires : tie.Need-lay-group-line-requires
-unfolding digitPairs column
-lay-group-line-requires c κs = (refl, search needs)
+lay-group-line-requires c κs =
+    let told = c .before .before in
+    (told .digit-pairs .ensures, search needs)
 
 shared-slice-read-lay-unit-lines : tie.Need-shared-slice-read-lay-unit-lines
 shared-slice-read-lay-unit-lines c = search needs
@@ -30,8 +31,9 @@ slice-aggregate-lay-unit-lines : tie.Need-slice-aggregate-lay-unit-lines
 slice-aggregate-lay-unit-lines c = search needs
 
 lay-unit-lines-requires : tie.Need-lay-unit-lines-requires
-unfolding digitPairs column
-lay-unit-lines-requires c κs = (refl, search needs)
+lay-unit-lines-requires c κs =
+    let told = c .before .before .before .before .before .before .before .before in
+    (told .digit-pairs .ensures, search needs)
 
 same-length : tie.Need-same-length
 same-length c = search needs
@@ -42,7 +44,7 @@ returns c =
     let put = c .before .before in
     let lent = put .before .before .before in
     let front = lent .before .before .before in
-    let s = front .before .before .before .before .before in
+    let s = front .before .before .before .before .before .before in
     let a = s .args in
     let out = now (a .out) in
     let count = byteAt (now (a .result)) (resultCount .place) in
@@ -56,6 +58,7 @@ pub lay-result-lines-spec : {M : Type 1} → statement M
 lay-result-lines-spec =
     tie.close
     (tie.spec
+    digit-pairs-requires
     slice-aggregate-lay-group-line
     lay-group-line-requires
     shared-slice-read-lay-unit-lines

@@ -36,20 +36,26 @@ decimals-at-requires c κs =
     let w = whole s (a .at) 44 mwhCap (sym (call .numeral-at .ensures) ∙ ap heldReply (c .before .answer .given .1)) in
     omega (arith, w .next, numeral-there s (a .at) 44 (w .one) (omega arith) (w .read))
 
-wrong-requires : tie.Need-wrong-requires
-wrong-requires c κs = search needs
-
 returns-2 : tie.Need-returns-2
 returns-2 c =
+    let known = c .before .before .before in
+    let call = known .before .before in
+    let a = call .before .before .args in
+    let s = now (a .s) in
+    let w = whole s (a .at) 44 mwhCap (sym (call .numeral-at .ensures) ∙ ap heldReply (known .answer .given .1)) in
+    sym (amount-wrong s (a .at) _ w (rw (c .before .decimals-at .ensures) at (c .if1 .taken)))
+
+mul-t8 : tie.Need-mul-t8
+mul-t8 c =
     let known = c .before .before .before .before in
     let call = known .before .before in
     let a = call .before .before .args in
     let s = now (a .s) in
     let w = whole s (a .at) 44 mwhCap (sym (call .numeral-at .ensures) ∙ ap heldReply (known .answer .given .1)) in
-    rw (c .wrong .ensures) (sym (amount-wrong s (a .at) _ w (rw (c .before .before .decimals-at .ensures) at (c .before .if1 .taken))))
+    omega (arith, w .value, least-most mwhCap (w .one .value))
 
-mul-t9 : tie.Need-mul-t9
-mul-t9 c =
+add-t9 : tie.Need-add-t9
+add-t9 c =
     let known = c .before .before .before .before in
     let call = known .before .before in
     let a = call .before .before .args in
@@ -59,15 +65,6 @@ mul-t9 c =
 
 add-t10 : tie.Need-add-t10
 add-t10 c =
-    let known = c .before .before .before .before in
-    let call = known .before .before in
-    let a = call .before .before .args in
-    let s = now (a .s) in
-    let w = whole s (a .at) 44 mwhCap (sym (call .numeral-at .ensures) ∙ ap heldReply (known .answer .given .1)) in
-    omega (arith, w .value, least-most mwhCap (w .one .value))
-
-add-t11 : tie.Need-add-t11
-add-t11 c =
     let call = c .before .before in
     let numeral = call .before .before .before .before in
     let a = numeral .before .before .args in
@@ -92,9 +89,8 @@ amount-at-spec =
     enum-told
     returns
     decimals-at-requires
-    wrong-requires
     returns-2
-    mul-t9
+    mul-t8
+    add-t9
     add-t10
-    add-t11
     returns-3)

@@ -18,16 +18,13 @@ byte-requires c κs = search needs
 digit-of-requires : tie.Need-digit-of-requires
 digit-of-requires c κs = search needs
 
-wrong-requires : tie.Need-wrong-requires
-wrong-requires c κs = search needs
-
 returns : tie.Need-returns
 returns c =
-    let digit = c .before .before in
+    let digit = c .before in
     let a = digit .before .before .before .args in
     let s = now (a .s) in
     let d = digit .digit-of .ensures ∙ ap digitIn (digit .before .byte .ensures) in
-    rw (c .wrong .ensures) (sym (none s (a .at) (a .cap) (a .stop) (no-digit-in (byteAt s (a .at)) (rw d at (c .before .if1 .taken)))))
+    sym (none s (a .at) (a .cap) (a .stop) (no-digit-in (byteAt s (a .at)) (rw d at (c .if1 .taken))))
 
 numeral-from-requires : tie.Need-numeral-from-requires
 numeral-from-requires c κs =
@@ -42,21 +39,18 @@ numeral-from-requires c κs =
 byte-requires-2 : tie.Need-byte-requires-2
 byte-requires-2 c κs = search needs
 
-wrong-requires-2 : tie.Need-wrong-requires-2
-wrong-requires-2 c κs = search needs
-
 returns-2 : tie.Need-returns-2
 unfolding need
 returns-2 c =
-    let end = c .before .before in
+    let end = c .before in
     let number = end .before in
     let start = number .before .before .before .before .before in
     let a = start .args in
-    let n = ne-eqb (byteAt (now (a .s)) (number .numeral-from .result .next)) (a .stop) (λ z. c .before .if2 .taken (end .byte2 .ensures ∙ z)) in
-    rw (c .wrong2 .ensures, number .numeral-from .ensures .told (a .stop) (start .pre .0 .digit), n)
+    let n = ne-eqb (byteAt (now (a .s)) (number .numeral-from .result .next)) (a .stop) (λ z. c .if2 .taken (end .byte2 .ensures ∙ z)) in
+    rw (number .numeral-from .ensures .told (a .stop) (start .pre .0 .digit), n)
 
-add-t12 : tie.Need-add-t12
-add-t12 c =
+add-t10 : tie.Need-add-t10
+add-t10 c =
     let end = c .before in
     let number = end .before in
     let start = number .before .before .before .before .before in
@@ -79,11 +73,9 @@ numeral-at-spec =
     (tie.spec
     byte-requires
     digit-of-requires
-    wrong-requires
     returns
     numeral-from-requires
     byte-requires-2
-    wrong-requires-2
     returns-2
-    add-t12
+    add-t10
     returns-3)

@@ -19,8 +19,8 @@ enum-known-answer c = search needs
 enum-told : tie.Need-enum-told
 enum-told c = search needs
 
-refusal-requires : tie.Need-refusal-requires
-refusal-requires c κs = search needs
+place-requires : tie.Need-place-requires
+place-requires c κs = search needs
 
 returns : tie.Need-returns
 returns c =
@@ -29,15 +29,14 @@ returns c =
     let a = call .before .before .args in
     let s = now (a .s) in
     let e = sym (call .amount-at .ensures) ∙ ap heldReply told in
-    rw (c .refusal .ensures, told) (sym (quantity-refused s (a .at) (a .stop) (mapped-refused cappedAmount (amountOf s (a .at)) e)))
+    rw (c .place .ensures, told) (sym (quantity-refused s (a .at) (a .stop) (mapped-refused cappedAmount (amountOf s (a .at)) e)))
 
 letter-at-requires : tie.Need-letter-at-requires
 letter-at-requires c κs =
     let call = c .before .before .before in
-    let start = call .before .before in
-    let a = start .args in
+    let a = call .before .before .args in
     let e = sym (call .amount-at .ensures) ∙ ap heldReply (c .before .answer .given .1) in
-    (amount-within (now (a .s)) (a .at) (a .stop) _ e, start .pre)
+    amount-within (now (a .s)) (a .at) (a .stop) _ e
 
 signed-by-requires : tie.Need-signed-by-requires
 signed-by-requires c κs =
@@ -61,7 +60,7 @@ quantity-at-spec =
     amount-at-requires
     enum-known-answer
     enum-told
-    refusal-requires
+    place-requires
     returns
     letter-at-requires
     signed-by-requires

@@ -35,9 +35,6 @@ add-t8 c = search needs
 enum-told-3 : tie.Need-enum-told-3
 enum-told-3 c = search needs
 
-wrong-requires : tie.Need-wrong-requires
-wrong-requires c κs = search needs
-
 returns : tie.Need-returns
 returns c =
     let size = c .before .before .before .before .args .size .value in
@@ -53,8 +50,7 @@ returns-2 c =
     rw (c .before .enum-told2 .given .1) (simp (toZ-pos w32, toZ-ofZ) (rw e))
 
 returns-3 : tie.Need-returns-3
-returns-3 c =
-    rw (c .wrong .ensures, c .before .enum-told3 .given .1)
+returns-3 c = rw (c .enum-told3 .given .1)
 
 pub signed-by-spec : {M : Type 1} → statement M
 signed-by-spec =
@@ -67,7 +63,6 @@ signed-by-spec =
     sub-t7
     add-t8
     enum-told-3
-    wrong-requires
     returns
     returns-2
     returns-3)

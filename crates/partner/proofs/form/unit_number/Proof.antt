@@ -28,16 +28,13 @@ returns c =
     let e = sym (call .numeral-at .ensures) ∙ ap heldReply (c .enum-told .given .1) in
     rw (c .enum-told .given .1) (sym (number-refused s (mapped-refused (capped numberCap) (numeralOf s 0 59) e)))
 
-wrong-requires : tie.Need-wrong-requires
-wrong-requires c κs = search needs
-
 returns-2 : tie.Need-returns-2
 returns-2 c =
-    let told = c .before .before .before .before in
+    let told = c .before .before .before in
     let call = told .before .before in
     let s = now (call .before .before .args .s) in
     let w = whole s 0 59 numberCap (sym (call .numeral-at .ensures) ∙ ap heldReply (told .answer .given .1)) in
-    rw (c .wrong .ensures) (sym (number-large s _ w (c .before .if1 .taken)))
+    sym (number-large s _ w (c .if1 .taken))
 
 returns-3 : tie.Need-returns-3
 returns-3 c =
@@ -56,6 +53,5 @@ unit-number-spec =
     enum-known-answer
     enum-told
     returns
-    wrong-requires
     returns-2
     returns-3)

@@ -13,6 +13,9 @@ use Rattle.partner.proofs.Bounds.{passing, refusing}
 use Rattle.partner.proofs.write.write_line.Statement.{statement}
 use Rattle.partner.proofs.write.write_line.Tie as tie
 
+at-zero-requires : tie.Need-at-zero-requires
+at-zero-requires c κs = search needs
+
 limits-requires : tie.Need-limits-requires
 limits-requires c κs = search needs
 
@@ -26,10 +29,10 @@ returns : tie.Need-returns
 unfolding writeOf
 returns c =
     let limited = c .before .before in
-    let s = limited .before .before in
+    let s = limited .before .before .before in
     let room = now (s .args .room) in
     let told = c .enum-told2 .given in
-    let q = sym (limited .limits .ensures) ∙ ap answer (told .1) in
+    let q = sym (rw (limited .before .at-zero .ensures) at (limited .limits .ensures)) ∙ ap answer (told .1) in
     refuses (lineOf (s .args .l)) room _ (told .1) (refusing (s .args .l) atZero _ q)
 
 line-length-requires : tie.Need-line-length-requires
@@ -43,10 +46,10 @@ unfolding writeOf roomFor need
 returns-2 c =
     let counted = c .before .before in
     let limited = counted .before .before .before in
-    let s = limited .before .before in
+    let s = limited .before .before .before in
     let l = s .args .l in
     let room = now (s .args .room) in
-    let q = sym (limited .limits .ensures) ∙ ap answer (counted .before .enum-told .given .1) in
+    let q = sym (rw (limited .before .at-zero .ensures) at (limited .limits .ensures)) ∙ ap answer (counted .before .enum-told .given .1) in
     let short = lt-leb (length (lineOf l)) (length room) (rw (counted .line-length .ensures) at (c .before .if1 .taken)) in
     refuses (lineOf l) room _ (c .refused .ensures) (rw (passing l atZero _ q, short))
 
@@ -63,11 +66,11 @@ returns-3 c =
     let tested = put .before .before in
     let counted = tested .before in
     let limited = counted .before .before .before in
-    let s = limited .before .before in
+    let s = limited .before .before .before in
     let l = s .args .l in
     let room = now (s .args .room) in
     let e = counted .line-length .ensures in
-    let q = sym (limited .limits .ensures) ∙ ap answer (counted .before .enum-told .given .1) in
+    let q = sym (rw (limited .before .at-zero .ensures) at (limited .limits .ensures)) ∙ ap answer (counted .before .enum-told .given .1) in
     let long = le-leb (length (lineOf l)) (length room) (rw e at (tested .if1 .left)) in
     writes (lineOf l) room (rw (passing l atZero _ q, long, e)) (sym e) (put .lay-line .ensures)
 
@@ -75,6 +78,7 @@ pub write-line-spec : {M : Type 1} → statement M
 write-line-spec =
     tie.close
     (tie.spec
+    at-zero-requires
     limits-requires
     enum-told
     enum-told-2
