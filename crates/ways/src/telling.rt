@@ -1,6 +1,6 @@
 // Answers as numbers: a refusal's number, or 0 where the call was accepted, and then the refusal's place, or what the call gives back.
 ghost use Rattle.ways.specs.Telling.{Told};
-use crate::days::number_of;
+use crate::number_of;
 use blocks::check::BlockAnswer;
 use group::judge::Judgement;
 use group::judge::Sums;
