@@ -17,7 +17,7 @@ use records::units::units_from;
 use terms::refusal::{Answer, Refusal, no_refusal};
 
 // A block that passed: its key and how many units it has, the bytes it takes up and those of its result.
-#[derive(Drop)]
+#[derive(Clone, Copy)]
 pub struct Block {
     pub key: Key,
     pub count: u8,
@@ -42,7 +42,7 @@ impl Block {
     }
 }
 
-#[derive(Drop)]
+#[derive(Clone, Copy)]
 pub enum BlockAnswer {
     Is(Block),
     Refused(Refusal),

@@ -4,7 +4,7 @@ ghost use Rattle.calendar.specs.Calendar.{day_of, date_of};
 
 use crate::days::{date_at, is_date, number_of};
 
-#[derive(Drop)]
+#[derive(Clone, Copy)]
 pub struct Date {
     pub year: u32,
     pub month: u32,
@@ -12,7 +12,7 @@ pub struct Date {
 }
 
 // A day or a minute by its number, or none.
-#[derive(Drop)]
+#[derive(Clone, Copy)]
 pub enum Number {
     Is(u32),
     No,

@@ -11,7 +11,7 @@ const DAY: u32 = 1440;
 // 9999-12-31T23:59Z.
 const LAST: u32 = 4207593599;
 
-#[derive(Drop)]
+#[derive(Clone, Copy)]
 pub struct Moment {
     pub date: Date,
     pub hour: u32,
@@ -19,7 +19,7 @@ pub struct Moment {
 }
 
 // A minute as it is shown: as a moment, or, later than all of them, as a number.
-#[derive(Drop)]
+#[derive(Clone, Copy)]
 pub enum Shown {
     At(Moment),
     Later,

@@ -1,5 +1,7 @@
 // The program behind `daylist --dates`: the first line of standard input, with dates where it is the DAY line. It reads no byte behind the
 // line feed, so that the rest of the list goes past it.
+#![tactic(auto)]
+
 ghost use Rattle.std.specs.Prelude.{◌≤◌, length};
 
 use libc::{STDIN_FILENO, STDOUT_FILENO};

@@ -17,14 +17,14 @@ use terms::refusal::{Refusal, Why};
 use walk::table::{HeadAnswer, Role, head_in};
 
 // What an accepted offer leaves: how many bytes were used, how many written, and the new day.
-#[derive(Drop)]
+#[derive(Clone, Copy)]
 pub struct Step {
     pub used: usize,
     pub written: usize,
     pub day: Day,
 }
 
-#[derive(Drop)]
+#[derive(Clone, Copy)]
 pub enum Offered {
     Taken(Step),
     // The day comes back as it was.

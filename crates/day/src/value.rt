@@ -6,7 +6,7 @@ use records::day::DayRecord;
 use records::key::{Key, Last};
 use walk::table::State;
 
-#[derive(Drop)]
+#[derive(Clone, Copy)]
 pub struct Day {
     pub state: State,
     pub record: DayRecord,

@@ -1,4 +1,6 @@
 // The day list: a day from standard input, its lines to standard output, in constant memory; what keeps the list from being whole, to standard error.
+#![tactic(auto)]
+
 ghost use Rattle.std.specs.Prelude.{◌≡◌, true, length};
 ghost use Rattle.terms.specs.Refusals.{number_of};
 ghost use Rattle.daylist.specs.Inner.{Places};

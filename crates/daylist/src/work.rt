@@ -11,7 +11,7 @@ use listing::list::{Listing, Part, Stop};
 use terms::refusal::Refusal;
 
 // How far the run is: it goes on, the list is whole, or what ended it.
-#[derive(Drop)]
+#[derive(Clone, Copy)]
 pub enum Run {
     Going,
     Whole,
@@ -36,7 +36,7 @@ impl Run {
 }
 
 // The list so far; the bytes at hand lie from `from` to `end` of the input buffer, the first `full` bytes of the output buffer wait to be written.
-#[derive(Drop)]
+#[derive(Clone, Copy)]
 pub struct Work {
     pub listing: Listing,
     pub from: usize,

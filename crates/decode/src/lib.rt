@@ -1,4 +1,6 @@
 // The units of a block, checked and read into columns.
+#![tactic(auto)]
+
 ghost use Rattle.std.specs.Prelude.{◌≡◌, false, ◌≤◌, ◌<◌, pos, length};
 ghost use Rattle.terms.specs.Checks.{most_units};
 ghost use Rattle.records.specs.Inner.{is_plain};
@@ -14,7 +16,7 @@ use records::units::{is_interval, is_plain};
 use terms::quantity::{Position, considered, is_implicit};
 
 // A reading of units: whether each passed in what it was asked, and then P and where they end.
-#[derive(Drop)]
+#[derive(Clone, Copy)]
 pub struct Reading {
     pub whole: bool,
     pub p: Position,

@@ -1,4 +1,6 @@
 // The C call: a block is checked as the first of its day.
+#![tactic(auto)]
+
 ghost use Rattle.std.specs.Prelude.{◌≡◌, true, pos, neg_ℤ, length};
 ghost use Rattle.terms.specs.Refusals.{number_of};
 ghost use Rattle.records.specs.Reading.{permitted};

@@ -1,4 +1,6 @@
 // What a refusal names: the plant, the field, the value read there, and what it was held against.
+#![tactic(auto)]
+
 pub mod named;
 mod reading;
 mod spot;

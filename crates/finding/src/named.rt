@@ -20,7 +20,7 @@ use terms::refusal::{Refusal, Why};
 use walk::table::{Role, State, role_of};
 
 // The record that a refusal speaks of, or the plants.
-#[derive(Drop)]
+#[derive(Clone, Copy)]
 pub enum Subject {
     Record,
     Day,
@@ -34,7 +34,7 @@ pub enum Subject {
     UnitAt(Key, usize),
 }
 
-#[derive(Drop)]
+#[derive(Clone, Copy)]
 pub enum UnitField {
     Number,
     Class,
@@ -49,7 +49,7 @@ pub enum UnitField {
     Upper,
 }
 
-#[derive(Drop)]
+#[derive(Clone, Copy)]
 pub enum Field {
     Kind,
     Quarters,
@@ -60,14 +60,14 @@ pub enum Field {
     Unit(UnitField),
 }
 
-#[derive(Drop)]
+#[derive(Clone, Copy)]
 pub enum Value {
     Plain(u32),
     Signed(i32),
 }
 
 // What a value was held against.
-#[derive(Drop)]
+#[derive(Clone, Copy)]
 pub enum Held {
     NotPermitted,
     Quarters,
@@ -87,14 +87,14 @@ pub enum Held {
     Accepted(u32),
 }
 
-#[derive(Drop)]
+#[derive(Clone, Copy)]
 pub struct Told {
     pub field: Field,
     pub value: Value,
     pub held: Held,
 }
 
-#[derive(Drop)]
+#[derive(Clone, Copy)]
 pub enum Finding {
     // So many bytes are at hand.
     CutShort(usize),
@@ -105,7 +105,7 @@ pub enum Finding {
     OtherCall,
 }
 
-#[derive(Drop)]
+#[derive(Clone, Copy)]
 pub struct Named {
     pub subject: Subject,
     pub finding: Finding,

@@ -8,14 +8,14 @@ use records::units::unit_length;
 use walk::table::role_of;
 
 // A unit record: its index, its place, and the place of the one before; the first has none before it, and tells its own.
-#[derive(Drop)]
+#[derive(Clone, Copy)]
 pub struct UnitSpot {
     pub index: usize,
     pub at: usize,
     pub before: usize,
 }
 
-#[derive(Drop)]
+#[derive(Clone, Copy)]
 pub enum Spot {
     Front,
     Unit(UnitSpot),

@@ -5,7 +5,7 @@ ghost use Rattle.group.specs.Steps.{band_of, excess_of, is_outside, direction_of
 
 use terms::quantity::{Direction, Nomination, Position};
 
-#[derive(Drop)]
+#[derive(Clone, Copy)]
 pub struct Band {
     pub low: i32,
     pub high: i32,

@@ -36,7 +36,7 @@ fn sizes_into(d: Direction, k: Standing, n1: &[i32], class: &[u8], sizes: &mut [
 }
 
 // What is shared out pro quota: c kWh over units of t kWh, which are those not enabled or, where those lose all, the enabled.
-#[derive(Drop)]
+#[derive(Clone, Copy)]
 struct Shared {
     all: bool,
     t: u32,

@@ -16,7 +16,7 @@ use terms::quantity::{Direction, Margins, Nomination, Position};
 use terms::refusal::{Answer, Refusal, Why};
 
 // What comes back of an accepted group.
-#[derive(Drop)]
+#[derive(Clone, Copy)]
 pub struct Sums {
     pub verdict: u8,
     pub p: Position,
@@ -26,7 +26,7 @@ pub struct Sums {
     pub balance: Nomination,
 }
 
-#[derive(Drop)]
+#[derive(Clone, Copy)]
 pub enum Judgement {
     Accepted(Sums),
     Refused(Refusal),
@@ -54,7 +54,7 @@ fn step1_all(n0: &[i32], step_down: &[i32], step_up: &[i32], n1: &mut [i32]) -> 
 }
 
 // What step 1 leaves of a group: its band, S1 and the excess of S1.
-#[derive(Drop)]
+#[derive(Clone, Copy)]
 pub struct Cut {
     pub band: Band,
     pub s1: i32,

@@ -1,2 +1,4 @@
 // The day list: one step of it.
+#![tactic(auto)]
+
 pub mod list;

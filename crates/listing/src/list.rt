@@ -23,7 +23,7 @@ use terms::refusal::{Refusal, Why};
 use walk::table::{Role, role_of};
 
 // The day so far, and how many bytes of the input were listed.
-#[derive(Drop)]
+#[derive(Clone, Copy)]
 pub struct Listing {
     pub day: Day,
     pub place: u64,
@@ -37,7 +37,7 @@ impl Listing {
 }
 
 // What was accepted: how many bytes of the input it has, how many its lines have, and the list after it.
-#[derive(Drop)]
+#[derive(Clone, Copy)]
 pub struct Part {
     pub used: usize,
     pub written: usize,
@@ -45,14 +45,14 @@ pub struct Part {
 }
 
 // What was refused: the refusal, whose place counts from what was offered, its place in the input, and how many bytes its line has.
-#[derive(Drop)]
+#[derive(Clone, Copy)]
 pub struct Stop {
     pub refusal: Refusal,
     pub place: u64,
     pub written: usize,
 }
 
-#[derive(Drop)]
+#[derive(Clone, Copy)]
 pub enum Listed {
     Taken(Part),
     // The list stops.

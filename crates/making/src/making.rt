@@ -19,14 +19,14 @@ use writers::lay::{lay_group, lay_unit};
 use writers::single::{write_day, write_end};
 
 // The first refusal of a block that is told when all its lines are read: number, line and what of the line.
-#[derive(Drop)]
+#[derive(Clone, Copy)]
 pub enum Found {
     Nothing,
     Fault(u8, u64, Spot),
 }
 
 // A block whose units are due: how many, where in the room the next one lies, and the least number that it may have.
-#[derive(Drop)]
+#[derive(Clone, Copy)]
 pub struct Block {
     pub left: u8,
     pub here: usize,
@@ -35,7 +35,7 @@ pub struct Block {
 }
 
 // What is due: a DAY, a GROUP or an END, a UNIT, nothing.
-#[derive(Drop)]
+#[derive(Clone, Copy)]
 pub enum Making {
     Opening,
     Between,
@@ -43,7 +43,7 @@ pub enum Making {
     Over,
 }
 
-#[derive(Drop)]
+#[derive(Clone, Copy)]
 pub enum Made {
     On(Making),
     // So many bytes of the room are a record or a block.

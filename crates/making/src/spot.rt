@@ -5,7 +5,7 @@ ghost use Rattle.making.specs.Spot.{shown_byte, Shows};
 // The most bytes of a word that are shown.
 pub const LONGEST_SHOWN: usize = 40;
 
-#[derive(Drop)]
+#[derive(Clone, Copy)]
 pub enum Spot {
     // No field: the whole line, or the end of the text.
     Nowhere,

@@ -10,7 +10,7 @@ const LINE_FEED: u8 = 10;
 pub const LINE: usize = MARK + LONGEST + 1;
 
 // Where the reading stands: the next byte and the end of the chunk, the lines so far, and the length of the one at hand.
-#[derive(Drop)]
+#[derive(Clone, Copy)]
 pub struct Input {
     pub at: usize,
     pub end: usize,
@@ -19,7 +19,7 @@ pub struct Input {
 }
 
 // What came of a turn of reading.
-#[derive(Drop)]
+#[derive(Clone, Copy)]
 pub enum Took {
     More(Input),
     Line(Input),

@@ -1,4 +1,6 @@
 // Makes the house records of a day from its text, as docs/TEXT.md says.
+#![tactic(auto)]
+
 mod input;
 mod outcome;
 mod told;

@@ -5,7 +5,7 @@ use libc::{STDERR_FILENO, STDOUT_FILENO};
 use making::spot::Spot;
 
 // The day is written whole; refused by a number at a line, and what of the line; or what could not be done.
-#[derive(Drop)]
+#[derive(Clone, Copy)]
 pub enum Outcome {
     Whole,
     Refused(u8, u64, Spot),

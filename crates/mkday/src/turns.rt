@@ -9,7 +9,7 @@ use records::group::GroupRecord;
 use text::line::line_in;
 
 // Where the reading and the making stand, and how many bytes of the output wait to be written; or how the run ended.
-#[derive(Drop)]
+#[derive(Clone, Copy)]
 enum Step {
     On(Input, Making, usize),
     Stopped(Outcome),

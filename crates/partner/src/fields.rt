@@ -23,14 +23,14 @@ const MWH_CAP: u32 = 1001;
 const NONE: u32 = 1000;
 
 // A number that was read, and the place after the byte that ends its field.
-#[derive(Drop)]
+#[derive(Clone, Copy)]
 pub struct Held {
     pub value: u32,
     pub next: usize,
 }
 
 // A number that was read, or the place of a field that is not in its form.
-#[derive(Drop)]
+#[derive(Clone, Copy)]
 pub enum HeldAnswer {
     Is(Held),
     Wrong(usize),
@@ -49,14 +49,14 @@ impl HeldAnswer {
 }
 
 // A nomination or a margin that was read, and the place after its letter's field.
-#[derive(Drop)]
+#[derive(Clone, Copy)]
 pub struct Quantity {
     pub kwh: i32,
     pub next: usize,
 }
 
 // What a letter says of the amount before it.
-#[derive(Drop)]
+#[derive(Clone, Copy)]
 pub enum Letter {
     Injection,
     Withdrawal,
@@ -64,7 +64,7 @@ pub enum Letter {
 }
 
 // Such a quantity, or the place of a field that is not in its form.
-#[derive(Drop)]
+#[derive(Clone, Copy)]
 pub enum QuantityAnswer {
     Is(Quantity),
     Wrong(usize),

@@ -12,7 +12,7 @@ use records::day::DayRecord;
 const LARGEST: u32 = 65535;
 
 // The values of the fields, with the place after each; what is too large is told by its cap.
-#[derive(Drop)]
+#[derive(Clone, Copy)]
 pub struct Form {
     pub number: Held,
     pub quarter: Held,
@@ -22,7 +22,7 @@ pub struct Form {
 }
 
 // The values, or the place of the first field that is not in its form.
-#[derive(Drop)]
+#[derive(Clone, Copy)]
 pub enum FormAnswer {
     Is(Form),
     Wrong(usize),

@@ -1,4 +1,6 @@
 // A partner's export: a line read, and a line written.
+#![tactic(auto)]
+
 mod fields;
 mod form;
 mod lay;

@@ -13,7 +13,7 @@ use terms::quantity::Margins;
 use terms::refusal::{Answer, Checked, Fault, Refusal, Why};
 
 // The place of each value that has a limit: where its field starts in a line that is read, an amount's own and not its letter's.
-#[derive(Drop)]
+#[derive(Clone, Copy)]
 pub struct Places {
     pub quarter: usize,
     pub n: usize,

@@ -3,7 +3,7 @@ use terms::quantity::{Margins, Nomination};
 use terms::refusal::Refusal;
 
 // One unit in one quarter: its nomination and its margins, in whole kWh.
-#[derive(Drop)]
+#[derive(Clone, Copy)]
 pub struct Line {
     pub number: u16,
     pub quarter: u8,
@@ -12,13 +12,13 @@ pub struct Line {
 }
 
 // A line that was read, and how many bytes it has, its line feed too.
-#[derive(Drop)]
+#[derive(Clone, Copy)]
 pub struct LineRead {
     pub line: Line,
     pub used: usize,
 }
 
-#[derive(Drop)]
+#[derive(Clone, Copy)]
 pub enum LineAnswer {
     Is(LineRead),
     Refused(Refusal),

@@ -1,4 +1,6 @@
 // The pro-quota cut: one cut shared over the units of a class, in whole kWh.
+#![tactic(auto)]
+
 ghost use Rattle.std.specs.Prelude.{◌≡◌, ℕ, ◌+◌, ◌*◌, ◌/◌, ◌%◌, ◌≤◌, ◌<◌, length, get_or};
 ghost use Rattle.numbers.specs.Column.{column, at, AllWithin};
 ghost use Rattle.numbers.specs.Range.{Within};
@@ -8,7 +10,7 @@ ghost use Rattle.quota.specs.Inner.{Asked, Own, Rated, Sharing, Marked, mark_by,
 use terms::quantity::Direction;
 
 // C kWh of T, which is more, and what each kWh bears of them: C / T in parts of which a kWh has ONE, 2³², rounded down.
-#[derive(Drop)]
+#[derive(Clone, Copy)]
 struct Ratio {
     c: u32,
     t: u32,
@@ -31,7 +33,7 @@ impl Ratio {
 }
 
 // An exact share C·n / T: its whole part and its remainder.
-#[derive(Drop)]
+#[derive(Clone, Copy)]
 struct Share {
     whole: u32,
     rest: u32,
@@ -103,7 +105,7 @@ fn above(marks: &[u32], x: u32) -> u32
 }
 
 // Marks up to low are not dealt a kWh, and marks above high are; where the two are one number, just so many are above it as kWh are left.
-#[derive(Drop)]
+#[derive(Clone, Copy)]
 struct Span {
     low: u32,
     high: u32,

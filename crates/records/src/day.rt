@@ -10,7 +10,7 @@ use crate::head::head;
 use numbers::bytes::{u16_at, u32_at};
 use terms::refusal::{Answer, Refusal, Why, no_refusal};
 
-#[derive(Drop)]
+#[derive(Clone, Copy)]
 pub struct DayRecord {
     pub day: u16,
     pub quarters: u8,
@@ -80,7 +80,7 @@ impl DayRecord {
     }
 }
 
-#[derive(Drop)]
+#[derive(Clone, Copy)]
 pub enum DayAnswer {
     Is(DayRecord),
     Refused(Refusal),

@@ -10,7 +10,7 @@ use crate::head::head;
 use numbers::bytes::u32_at;
 use terms::refusal::{Answer, Refusal, Why, no_refusal};
 
-#[derive(Drop)]
+#[derive(Clone, Copy)]
 pub struct EndRecord {
     pub groups: u32,
 }
@@ -29,7 +29,7 @@ impl EndRecord {
     }
 }
 
-#[derive(Drop)]
+#[derive(Clone, Copy)]
 pub enum EndAnswer {
     Is(EndRecord),
     Refused(Refusal),

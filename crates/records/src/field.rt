@@ -4,7 +4,7 @@ ghost use Rattle.records.specs.Answers.{byte_refusal, number_refusal};
 
 use terms::refusal::{Refusal, no_refusal};
 
-#[derive(Drop)]
+#[derive(Clone, Copy)]
 pub enum ByteAnswer {
     Is(u8),
     Refused(Refusal),
@@ -21,7 +21,7 @@ impl ByteAnswer {
     }
 }
 
-#[derive(Drop)]
+#[derive(Clone, Copy)]
 pub enum NumberAnswer {
     Is(u32),
     Refused(Refusal),

@@ -17,7 +17,7 @@ use numbers::bytes::{u16_at, u32_at};
 use terms::check::is_count;
 use terms::refusal::{Answer, Refusal, Why, no_refusal};
 
-#[derive(Drop)]
+#[derive(Clone, Copy)]
 pub struct GroupRecord {
     pub brp: u16,
     pub zone: u8,
@@ -75,7 +75,7 @@ impl GroupRecord {
     }
 }
 
-#[derive(Drop)]
+#[derive(Clone, Copy)]
 pub enum GroupAnswer {
     Is(GroupRecord),
     Refused(Refusal),

@@ -3,7 +3,7 @@ ghost use Rattle.std.specs.Prelude.{◌≡◌};
 
 use terms::quantity::{Nomination, Position};
 
-#[derive(Drop)]
+#[derive(Clone, Copy)]
 pub struct GroupResult {
     pub brp: u16,
     pub zone: u8,

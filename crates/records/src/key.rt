@@ -6,7 +6,7 @@ ghost use Rattle.records.specs.Reading.{below, follows};
 use terms::refusal::{Refusal, no_refusal};
 
 // A BRP, a zone and a quarter.
-#[derive(Drop)]
+#[derive(Clone, Copy)]
 pub struct Key {
     pub brp: u16,
     pub zone: u8,
@@ -29,7 +29,7 @@ impl Key {
 }
 
 // The last block accepted of a day, where there is one.
-#[derive(Drop)]
+#[derive(Clone, Copy)]
 pub enum Last {
     Nothing,
     Block(Key),
@@ -48,7 +48,7 @@ impl Last {
 }
 
 // A block's key, or a refusal.
-#[derive(Drop)]
+#[derive(Clone, Copy)]
 pub enum KeyAnswer {
     Is(Key),
     Refused(Refusal),

@@ -1,4 +1,6 @@
 // House records: their types and layouts, and reading them.
+#![tactic(auto)]
+
 pub mod age;
 pub mod day;
 pub mod end;

@@ -7,7 +7,7 @@ use numbers::bytes::{i32_at, u16_at, u32_at};
 use terms::quantity::{Margins, Nomination, Position};
 use terms::refusal::Fault;
 
-#[derive(Drop)]
+#[derive(Clone, Copy)]
 pub struct UnitRecord {
     pub number: u16,
     pub class: u8,

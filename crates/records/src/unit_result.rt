@@ -3,7 +3,7 @@ ghost use Rattle.std.specs.Prelude.{◌≡◌};
 
 use terms::quantity::Nomination;
 
-#[derive(Drop)]
+#[derive(Clone, Copy)]
 pub struct UnitResult {
     pub number: u16,
     pub reason: u8,

@@ -12,7 +12,7 @@ use crate::head::{head, is_there};
 use crate::unit::{UnitRecord, unit_end, unit_fields};
 use terms::refusal::{Answer, Checked, Refusal, no_refusal};
 
-#[derive(Drop)]
+#[derive(Clone, Copy)]
 pub enum UnitAnswer {
     Is(UnitRecord),
     Refused(Refusal),

@@ -5,15 +5,15 @@ ghost use Rattle.numbers.specs.Range.{Within};
 ghost use Rattle.terms.specs.Quantities.{standing, known_class, size_in, implicit};
 
 // Whole kWh, negative for a sale, positive for a purchase.
-#[derive(Drop)]
+#[derive(Clone, Copy)]
 pub struct Position(pub i32);
 
 // Whole kWh, positive for an injection, negative for a withdrawal.
-#[derive(Drop)]
+#[derive(Clone, Copy)]
 pub struct Nomination(pub i32);
 
 // A unit's step-down and step-up margin, M- and M+, by which the steps work: whole kWh with a nomination's sign.
-#[derive(Drop)]
+#[derive(Clone, Copy)]
 pub struct Margins {
     pub step_down: i32,
     pub step_up: i32,
@@ -38,7 +38,7 @@ impl Position {
 }
 
 // How a unit stands to the Integrated Scheduling Process.
-#[derive(Drop)]
+#[derive(Clone, Copy)]
 pub enum Standing {
     NotEnabled,
     Enabled,
@@ -64,7 +64,7 @@ pub fn is_class(class: u8) -> bool
 }
 
 // What step 2 cuts.
-#[derive(Drop)]
+#[derive(Clone, Copy)]
 pub enum Direction {
     Injections,
     Withdrawals,

@@ -3,7 +3,7 @@ ghost use Rattle.std.specs.Prelude.{◌≡◌};
 ghost use Rattle.terms.specs.Refusals.{number_of, why_of, no_refusal, refusal_of};
 
 // The reasons for a refusal, in the order of their numbers.
-#[derive(Drop)]
+#[derive(Clone, Copy)]
 pub enum Why {
     CutShort,
     Kind,
@@ -54,7 +54,7 @@ impl Why {
     }
 }
 
-#[derive(Drop)]
+#[derive(Clone, Copy)]
 pub struct Refusal {
     pub why: Why,
     pub place: usize,
@@ -71,7 +71,7 @@ pub fn no_refusal() -> Refusal
 }
 
 // What can be wrong with a unit, field by field.
-#[derive(Drop)]
+#[derive(Clone, Copy)]
 pub enum Fault {
     // A kind that no unit record has; only the block writer meets it.
     Kind,
@@ -123,14 +123,14 @@ impl Fault {
 }
 
 // Whether a unit passes its checks, or its first fault.
-#[derive(Drop)]
+#[derive(Clone, Copy)]
 pub enum Checked {
     Fine,
     Faulty(Fault),
 }
 
 // A number, such as a count or a length, or a refusal.
-#[derive(Drop)]
+#[derive(Clone, Copy)]
 pub enum Answer {
     Is(usize),
     Refused(Refusal),

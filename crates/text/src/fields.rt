@@ -6,7 +6,7 @@ use crate::numbers_in::{Whole, after_blanks, field_end};
 use crate::values_in::{Form, value_at};
 
 // A field by its index in the record, 0 the word itself, where it starts and ends in the text, and whether it and all before it are in the form.
-#[derive(Drop)]
+#[derive(Clone, Copy)]
 pub struct Field {
     pub index: u8,
     pub start: usize,
@@ -14,31 +14,31 @@ pub struct Field {
     pub good: bool,
 }
 
-#[derive(Drop)]
+#[derive(Clone, Copy)]
 pub struct Unsigned {
     pub value: u64,
     pub field: Field,
 }
 
-#[derive(Drop)]
+#[derive(Clone, Copy)]
 pub struct Byte {
     pub value: u8,
     pub field: Field,
 }
 
-#[derive(Drop)]
+#[derive(Clone, Copy)]
 pub struct Short {
     pub value: u16,
     pub field: Field,
 }
 
-#[derive(Drop)]
+#[derive(Clone, Copy)]
 pub struct Long {
     pub value: u32,
     pub field: Field,
 }
 
-#[derive(Drop)]
+#[derive(Clone, Copy)]
 pub struct Kwh {
     pub value: i32,
     pub field: Field,

@@ -1,4 +1,6 @@
 // The text form of a day, docs/TEXT.md: what a line is.
+#![tactic(auto)]
+
 mod dates_in;
 mod fields;
 pub mod line;

@@ -24,7 +24,7 @@ const CARRIAGE_RETURN: u8 = 13;
 // The kind of a word that no record has.
 const NO_KIND: u8 = 0;
 
-#[derive(Drop)]
+#[derive(Clone, Copy)]
 pub enum Line {
     Day(DayRecord),
     Group(GroupRecord),
@@ -38,7 +38,7 @@ pub enum Line {
 }
 
 // The DAY line of the day list: its day, quarters and run minute; or another line.
-#[derive(Drop)]
+#[derive(Clone, Copy)]
 pub enum DayLine {
     Is(u16, u8, u32),
     No,

@@ -10,14 +10,14 @@ const TAB: u8 = 9;
 const LARGEST: u64 = 4294967295;
 
 // What digits come to.
-#[derive(Drop)]
+#[derive(Clone, Copy)]
 pub enum Size {
     Is(u64),
     No,
 }
 
 // A number by sign and size, and whether it is one.
-#[derive(Drop)]
+#[derive(Clone, Copy)]
 pub struct Whole {
     pub negative: bool,
     pub size: u64,

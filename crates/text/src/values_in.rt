@@ -6,7 +6,7 @@ use crate::dates_in::{day_in, minute_in};
 use crate::numbers_in::{Whole, field_end, none, number_in};
 
 // A number, or a day or a minute, which may be written as dates.
-#[derive(Drop)]
+#[derive(Clone, Copy)]
 pub enum Form {
     Number,
     Day,

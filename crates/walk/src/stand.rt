@@ -6,14 +6,14 @@ ghost use Rattle.walk.specs.Stands.{stand_past, stand_after, stand_ahead, turn_r
 use crate::step::{Extent, Step, next};
 use crate::table::State;
 
-#[derive(Drop)]
+#[derive(Clone, Copy)]
 pub struct Stand {
     pub state: State,
     pub place: usize,
 }
 
 // What a walk replies where it stands, and where it stands after that.
-#[derive(Drop)]
+#[derive(Clone, Copy)]
 pub struct Turn {
     pub state: State,
     pub place: usize,

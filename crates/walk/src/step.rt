@@ -12,14 +12,14 @@ use records::units::unit_head;
 use terms::refusal::{Answer, Refusal, Why};
 
 // Where a record or a whole block lies, and the state after it.
-#[derive(Drop)]
+#[derive(Clone, Copy)]
 pub struct Extent {
     pub start: usize,
     pub end: usize,
     pub after: State,
 }
 
-#[derive(Drop)]
+#[derive(Clone, Copy)]
 pub enum Step {
     Record(Extent),
     Refused(Refusal),

@@ -8,7 +8,7 @@ use records::end::EndRecord;
 use records::group::GroupRecord;
 use terms::refusal::{Refusal, Why, no_refusal};
 
-#[derive(Drop)]
+#[derive(Clone, Copy)]
 pub enum State {
     Fresh,
     Open,
@@ -16,7 +16,7 @@ pub enum State {
 }
 
 // What a record is to a day.
-#[derive(Drop)]
+#[derive(Clone, Copy)]
 pub enum Role {
     Opens,
     Block,
@@ -111,13 +111,13 @@ impl State {
 }
 
 // What a record whose head was read is to the day, and where the record ends.
-#[derive(Drop)]
+#[derive(Clone, Copy)]
 pub struct Head {
     pub role: Role,
     pub end: usize,
 }
 
-#[derive(Drop)]
+#[derive(Clone, Copy)]
 pub enum HeadAnswer {
     Is(Head),
     Refused(Refusal),

@@ -9,7 +9,7 @@ use crate::stand::{next_turn, stand_ahead};
 use crate::step::{Step, next};
 use crate::table::State;
 
-#[derive(Drop)]
+#[derive(Clone, Copy)]
 pub struct Walker<'a> {
     pub bytes: &'a [u8],
     pub state: State,
@@ -17,7 +17,7 @@ pub struct Walker<'a> {
 }
 
 // What a walker replied, and where it stands after that: the fields of the walker, and the reply.
-#[derive(Drop)]
+#[derive(Clone, Copy)]
 pub struct Moved<'a> {
     pub bytes: &'a [u8],
     pub state: State,

@@ -1,4 +1,6 @@
 // The calls of the library as a test in C reaches them (docs/PROBE.md): plain numbers go in, and what a call gives back is told in lent ones.
+#![tactic(auto)]
+
 ghost use Rattle.ways.specs.Telling.{Told};
 
 mod telling;

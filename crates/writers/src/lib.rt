@@ -1,4 +1,6 @@
 // Writing house records: the three writers.
+#![tactic(auto)]
+
 pub mod block;
 mod columns;
 pub mod lay;
