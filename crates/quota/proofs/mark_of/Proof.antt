@@ -1,4 +1,4 @@
--- `mark_of` meets its contract, by the test that `markBy` makes.
+-- `mark_of` meets its contract, by the test that `mark_by` makes.
 use borrow.Author.Tests.{lt-ltb, le-ltb}
 use Rattle.quota.specs.Inner.{mark_by}
 use borrow.Author.Rules.{rules}

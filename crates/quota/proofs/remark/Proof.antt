@@ -1,4 +1,4 @@
--- `remark` meets its contract, by the tests that `remarkBy` makes.
+-- `remark` meets its contract, by the tests that `remark_by` makes.
 use borrow.Author.Tests.{lt-ltb, le-ltb}
 use borrow.Author.Rules.{rules}
 use Rattle.quota.specs.Inner.{remark_by}

@@ -1,4 +1,4 @@
--- A day record is read as `dayOf` says: its head, and then its fields.
+-- A day record is read as `day_of` says: its head, and then its fields.
 use mathlib.Core.Path.{sym, ap, ◌∙◌}
 use Rattle.terms.specs.Reply.{next}
 use Rattle.terms.specs.Refusals.{answer}

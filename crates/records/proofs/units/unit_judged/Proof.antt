@@ -1,4 +1,4 @@
--- A unit record that is there whole is answered as `unitFieldsOf` says: by its first fault.
+-- A unit record that is there whole is answered as `unit_fields_of` says: by its first fault.
 use native.Mathlib.Omega.{arith}
 use Rattle.terms.specs.Refusals.{passed}
 use Rattle.records.specs.Reading.{unit_fields_of}

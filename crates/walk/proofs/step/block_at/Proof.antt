@@ -1,4 +1,4 @@
--- A block's end is told as `blockEndOf` says: 5 where the count is not permitted, and else by the units' heads.
+-- A block's end is told as `block_end_of` says: 5 where the count is not permitted, and else by the units' heads.
 use Prim.Native.Nat.{◌+◌}
 use mathlib.Core.Path.{sym, ◌∙◌}
 use native.Mathlib.Omega.{arith}

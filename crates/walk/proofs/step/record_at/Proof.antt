@@ -1,4 +1,4 @@
--- A record's extent is told as `recordOf` says: its head, then where it ends, each handing its refusal upward.
+-- A record's extent is told as `record_of` says: its head, then where it ends, each handing its refusal upward.
 use mathlib.Core.Path.{sym, ap, ◌∙◌}
 use borrow.Author.Rules.{rules}
 use Rattle.terms.specs.Reply.{next}

@@ -1,4 +1,4 @@
--- `block_head` answers as `blockHeadIn` says: each return by the tests that led to it.
+-- `block_head` answers as `block_head_in` says: each return by the tests that led to it.
 use mathlib.Core.Path.{sym, ap, ◌∙◌}
 use borrow.Author.Rules.{rules}
 use borrow.Author.Tests.{le-ltb, lt-ltb, not-true, not-false}

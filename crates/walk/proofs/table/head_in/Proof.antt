@@ -1,4 +1,4 @@
--- `head_in` answers as `headIn` says: each return by the tests that led to it.
+-- `head_in` answers as `head_in` says: each return by the tests that led to it.
 use Prim.Native.Nat.{◌+◌}
 use native.Mathlib.Omega.{arith}
 use borrow.Author.Rules.{rules}
