@@ -1,4 +1,4 @@
-// The C call: a block is checked as the first of its day.
+// The C call, which `desk_c` exports: a block is checked as the first of its day.
 #![tactic(auto)]
 
 ghost use Rattle.std.specs.Prelude.{◌≡◌, true, pos, neg_ℤ, length};
@@ -42,8 +42,7 @@ fn check_first(record: DayRecord, block: &[u8], room: &mut [u8]) -> i32
 }
 
 // The day bytes and one block with room for its result: the written length, or minus the refusal number.
-#[unsafe(no_mangle)]
-pub extern "C" fn flehwella_check(day: &[u8], block: &[u8], room: &mut [u8]) -> i32
+pub fn flehwella_check(day: &[u8], block: &[u8], room: &mut [u8]) -> i32
     ensures { Checks day.now block.now room.old result room.new }
 {
     let d = read_day(day);
