@@ -70,6 +70,7 @@ if not write:
     for n, t in list(turn.items()): print('  %s -> %s' % (n, t))
     sys.exit()
 for word, (other, where) in FIRST.items():
+    if not any(CHOSEN.get(n) == word for n in declared): continue      # turned before
     for f in where:
         t = (top / f).read_text(encoding='utf-8')
         (top / f).write_text(re.sub(r"(?<![\w.'-])" + word + r"(?![\w.'-])", other, t), encoding='utf-8')

@@ -11,7 +11,7 @@ use mir.Syntax.{w32}
 use mir.Val.{SFits}
 use Rattle.numbers.specs.Bytes.{laid_at}
 use Rattle.numbers.specs.Range.{Within}
-use Rattle.numbers.specs.Column.{column, at}
+use Rattle.numbers.specs.Column.{column}
 use Rattle.numbers.specs.Sum.{sum_z, bit}
 use Rattle.numbers.proofs.Columns.{column-length, column-at, column-past}
 use Rattle.numbers.proofs.Laid.{laid-under}

@@ -1,5 +1,5 @@
 -- "Bytes after it are not read": where the bytes agree up to the end of what was taken, it is taken with the same reply and the same result.
-use Prim.Native.Nat.{ℕ, suc, ◌+◌, ◌≤◌, ◌<◌}
+use Prim.Native.Nat.{ℕ, suc, ◌≤◌, ◌<◌}
 use mathlib.Core.Path.{◌≡◌, refl, sym, ap, ◌∙◌}
 use mathlib.Core.Bool.{Bool, true, false}
 use mathlib.Core.List.{List, [], ◌++◌}
@@ -26,7 +26,7 @@ use Rattle.records.proofs.Fields.{past}
 use Rattle.walk.specs.declared.table.Role.{Role}
 use Rattle.walk.specs.declared.table.Role.TheVariants as R
 use Rattle.walk.specs.declared.table.Head.{Head}
-use Rattle.walk.specs.Table.{role_of, is_block-only, head_at, head_in}
+use Rattle.walk.specs.Table.{role_of, is_block, head_at, head_in}
 use Rattle.walk.proofs.Coming.{is_block-only, length_in}
 use Rattle.day.specs.declared.value.Day.{Day}
 use Rattle.blocks.specs.declared.check.Block.{Block}
@@ -160,9 +160,9 @@ module _ (day : Day) (s : List ℕ) (room : ℕ) {step : Step} (e : offer_of day
         (taken-kept day s room t a x.0.role x.0.end (omega (arith, offer-lies.from)) x.1.1)
 
     written-kept : written_of t ≡ written_of s
-    written-kept = rw (a.same 0 some) (go (is_block-only (role_of (byte_at s 0))) refl)
+    written-kept = rw (a.same 0 some) (go (is_block (role_of (byte_at s 0))) refl)
       where
-        go : (g : Bool) → is_block-only (role_of (byte_at s 0)) ≡ g → pick g (block_result t) [] ≡ pick g (block_result s) []
+        go : (g : Bool) → is_block (role_of (byte_at s 0)) ≡ g → pick g (block_result t) [] ≡ pick g (block_result s) []
         go true q =
             let u = ap (λ (x : Step). x.used) (taken-block day s room e (is_block-only (role_of (byte_at s 0)) q)).value in
             ap (result_in t) (group-same s t _ a (omega (arith, place-from s group_length (block_count s)))) ∙ result-kept s t _ a (group_at s 0) (omega arith)

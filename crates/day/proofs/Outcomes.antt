@@ -1,5 +1,5 @@
 -- What an offer that was taken was, and what it left: its reply is read back by what the record that came is to the day.
-use Prim.Native.Nat.{ℕ, ◌+◌, ◌≤◌}
+use Prim.Native.Nat.{ℕ, ◌≤◌}
 use mathlib.Core.Path.{◌≡◌, refl, sym, ap, ◌∙◌}
 use mathlib.Core.Bool.{Bool, true, false}
 use mathlib.Core.List.{List, [], ◌++◌}
@@ -17,7 +17,7 @@ use Rattle.writers.specs.Results.{result_length}
 use Rattle.walk.specs.declared.table.Role.{Role}
 use Rattle.walk.specs.declared.table.Role.TheVariants.{Opens, Block, Closes}
 use Rattle.walk.specs.declared.table.Head.{Head}
-use Rattle.walk.specs.Table.{role_of, is_block-only}
+use Rattle.walk.specs.Table.{role_of, is_block}
 use Rattle.walk.proofs.Coming.{is_block-only}
 use Rattle.day.specs.declared.value.Day.{Day}
 use Rattle.blocks.specs.declared.check.Block as checked
@@ -81,12 +81,12 @@ module _ (day : Day) (s : List ℕ) (room : ℕ) {step : Step} where
         let v : step ≡ record { used = end; written = 0; day = closed day } = cc a.1.1 in
         ap (λ (x : Step). x.written) v
 
-    none_written : is_block-only (role_of (byte_at s 0)) ≡ false → step.written ≡ 0
+    none_written : is_block (role_of (byte_at s 0)) ≡ false → step.written ≡ 0
     none_written n =
         let a = head-taken in
-        go a.0.role a.0.end (ap is_block-only (sym (head-came day s a.0 a.1.0).first) ∙ n) a.1.1
+        go a.0.role a.0.end (ap is_block (sym (head-came day s a.0 a.1.0).first) ∙ n) a.1.1
       where
-        go : (role : Role) (end : ℕ) → is_block-only role ≡ false → taken day s room role end ≡ is step → step.written ≡ 0
+        go : (role : Role) (end : ℕ) → is_block role ≡ false → taken day s room role end ≡ is step → step.written ≡ 0
         go Opens end n h = day-none end h
         go Block end n h =
             let z : ◌≡◌ {A = ℕ} 0 1 = cc in
@@ -95,9 +95,9 @@ module _ (day : Day) (s : List ℕ) (room : ℕ) {step : Step} where
 
     -- what was written is as long as the reply tells
     pub written-length : length (written_of s) ≡ step.written
-    written-length = go (is_block-only (role_of (byte_at s 0))) refl
+    written-length = go (is_block (role_of (byte_at s 0))) refl
       where
-        go : (b : Bool) → is_block-only (role_of (byte_at s 0)) ≡ b → length (pick b (block_result s) []) ≡ step.written
+        go : (b : Bool) → is_block (role_of (byte_at s 0)) ≡ b → length (pick b (block_result s) []) ≡ step.written
         go true q =
             result-length s ∙ sym (ap (λ (x : Step). x.written) (taken-block (is_block-only (role_of (byte_at s 0)) q)).value)
         go false q = sym (none_written q)

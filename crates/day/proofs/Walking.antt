@@ -18,7 +18,7 @@ use Rattle.walk.specs.declared.table.State.TheVariants.{Fresh, Open, Closed}
 use Rattle.walk.specs.declared.table.Role.{Role}
 use Rattle.walk.specs.declared.table.Role.TheVariants.{Opens, Block, Closes}
 use Rattle.walk.specs.declared.table.Head.{Head}
-use Rattle.walk.specs.Table.{role_of, row_of, state_after, head_in, Coming, the_day, a_group, the-end}
+use Rattle.walk.specs.Table.{role_of, row_of, state_after, head_in, Coming, the_day, a_group, the_end}
 use Rattle.walk.specs.Walk.{heads_of, block_end_of, walk_from, done}
 use Rattle.walk.specs.Extents.{from, headed, Blocks, block, ending, DayOf, opening}
 use Rattle.walk.proofs.Coming.{came, head-moved}
@@ -123,7 +123,7 @@ module _ (day : Day) (s : List ℕ) (room : ℕ) {step : Step} (e : offer_of day
   by-role : Coming day.state head.role → Takes s day.state step.day.state
   by-role (the_day p q) = day-takes p q
   by-role (a_group p q) = block-takes p q
-  by-role (the-end p q) = end-takes p q
+  by-role (the_end p q) = end-takes p q
 
 takes : (day : Day) (s : List ℕ) (room : ℕ) {step : Step} → offer_of day s room ≡ is step → step.used ≡ length s → Takes s day.state step.day.state
 unfolding offer_of

@@ -5,7 +5,7 @@ use mathlib.Core.Bool.{Bool, true, false, false≢true}
 use mathlib.Core.List.{List}
 use native.Mathlib.Omega.{arith}
 use native.Mathlib.Numerals.{add-one}
-use lib.IntN.{ℤ, ◌+ℤ◌}
+use lib.IntN.{ℤ, pos, ◌+ℤ◌}
 use lib.ListN.{length}
 use mir.Syntax.{w32}
 use mir.Val.{SFits, to_z, of_z, bool_byte}
@@ -52,19 +52,16 @@ mark false = refl
 pub back : (z : ℤ) → Within 1000000 z → to_z w32 (of_z w32 z) ≡ z
 back z h = to_z-of_z w32 z (omega zarith)
 
--- a sum of the first quantities: what its bits say, and that with one more it fits
-pub record Added (f : ℕ → ℤ) (i p : ℕ) : Type 0 where
-  pub total : p ≡ of_z w32 (sum_z (column i f))
+-- a sum of the first quantities, and that with one more it fits
+pub record Added (f : ℕ → ℤ) (i : ℕ) (p : ℤ) : Type 0 where
+  pub total : p ≡ sum_z (column i f)
   pub small : Within (i * 1000000) (sum_z (column i f))
 
-module _ {f : ℕ → ℤ} {i p : ℕ} (a : Added f i p) (few : i ≤ most_units) where
-  pub added-back : to_z w32 p ≡ sum_z (column i f)
-  added-back = rw a.total (to_z-of_z w32 (sum_z (column i f)) (omega (zarith, a.small)))
-
+module _ {f : ℕ → ℤ} {i : ℕ} {p : ℤ} (a : Added f i p) (few : i ≤ most_units) where
   pub added-fits : (z : ℤ) → Within 1000000 z → i < most_units → SFits w32 (sum_z (column i f) +ℤ z)
   added-fits z h l = omega (zarith, a.small, plus (sum_z (column i f)) z)
 
-  pub added_more : {q : ℕ} {z : ℤ} → z ≡ f i → Within 1000000 z → q ≡ of_z w32 (sum_z (column i f) +ℤ z) → Added f (i + 1) q
+  pub added_more : {q : ℤ} {z : ℤ} → z ≡ f i → Within 1000000 z → q ≡ sum_z (column i f) +ℤ z → Added f (i + 1) q
   added_more {q} {z} e h eq =
       let n : sum_z (column (i + 1) f) ≡ sum_z (column i f) +ℤ z = rw (add-one i, e) (sum_z-column _ i) in
       record { total = eq ∙ rw n; small = rw n (omega (zarith, a.small, plus (sum_z (column i f)) z)) }
@@ -80,7 +77,7 @@ module _ (s : List ℕ) (day : DayRecord) where
   count = block_count s
 
   -- the columns are filled up to unit i, which begins here; where no nomination and no margins failed so far, the units left are all that is to be read
-  pub record Going (class taken : List ℕ) (n0 down up : List ℤ) (here floor p i : ℕ) : Type 0 where
+  pub record Going (class taken : List ℕ) (n0 down up : List ℤ) (here floor : ℕ) (p : ℤ) (i : ℕ) : Type 0 where
     pub begun : Begun s
     pub within : i ≤ count
     pub place : here ≡ unit_place s i
@@ -92,7 +89,7 @@ module _ (s : List ℕ) (day : DayRecord) where
     pub downs : Filled (λ (k : ℕ). (margins_of (unit_in s k)).step_down) count i down
     pub ups : Filled (λ (k : ℕ). (margins_of (unit_in s k)).step_up) count i up
 
-  pub start : {class taken : List ℕ} {n0 down up : List ℤ} → Begun s → UnitRoom count class taken n0 down up → Going class taken n0 down up group_length 0 0 0
+  pub start : {class taken : List ℕ} {n0 down up : List ℤ} → Begun s → UnitRoom count class taken n0 down up → Going class taken n0 down up group_length 0 (pos 0) 0
   unfolding sum_z column place_from
   start b r =
       record {
@@ -108,7 +105,7 @@ module _ (s : List ℕ) (day : DayRecord) where
         ups = fill_none _ _ _ r.ups;
       }
 
-  module _ {class taken : List ℕ} {n0 down up : List ℤ} {here floor p i : ℕ} (g : Going class taken n0 down up here floor p i) where
+  module _ {class taken : List ℕ} {n0 down up : List ℤ} {here floor : ℕ} {p : ℤ} {i : ℕ} (g : Going class taken n0 down up here floor p i) where
     pub upto : i ≤ most_units
     upto = omega (arith, g.within, g.begun.few)
 
@@ -157,15 +154,15 @@ module _ (s : List ℕ) (day : DayRecord) where
 
         -- the sum of PC and its own, as the machine adds them
         abbrev more : ℤ
-        more = to_z w32 p +ℤ to_z w32 (of_z w32 u.pc.0)
+        more = p +ℤ to_z w32 (of_z w32 u.pc.0)
 
         is-more : more ≡ sum_z (pc_in s i) +ℤ u.pc.0
-        is-more = rw (added-back g.sold upto, back _ small)
+        is-more = rw (g.sold.total, back _ small)
 
         pub fits : SFits w32 more
         fits = rw is-more (added-fits g.sold upto _ small (omega (arith, l, g.begun.few)))
 
-        pub turn : {h f q : ℕ} → h ≡ unit_end s here → f ≡ u.number + 1 → q ≡ of_z w32 more → Going class' taken' n0' down' up' h f q (i + 1)
+        pub turn : {h f : ℕ} {q : ℤ} → h ≡ unit_end s here → f ≡ u.number + 1 → q ≡ to_z w32 (of_z w32 more) → Going class' taken' n0' down' up' h f q (i + 1)
         unfolding place_from
         turn {h} {f} {q} eh ef eq =
             record {
@@ -173,7 +170,7 @@ module _ (s : List ℕ) (day : DayRecord) where
               within = omega arith;
               place = eh ∙ ap (unit_end s) g.place ∙ ap (place_from s group_length) (sym (add-one i));
               left = onward;
-              sold = added_more g.sold upto (rw here_in) small (eq ∙ ap (of_z w32) is-more);
+              sold = added_more g.sold upto (rw here_in) small (eq ∙ to_z-of_z w32 more (omega (zarith, fits)) ∙ is-more);
               classes = fill_more _ _ i class l (t.classes yes ∙ rw here_in) g.classes;
               marks = fill_more _ _ i taken l (t.marks yes ∙ rw here_in) g.marks;
               starts = fill_more _ _ i n0 l (t.starts yes ∙ rw here_in) g.starts;
@@ -191,14 +188,14 @@ module _ (s : List ℕ) (day : DayRecord) where
                 rw (eh, ef ∙ ap (λ (x : UnitRecord). x.number + 1) (sym v)) next
 
     -- handed on where units are left, and taken up again
-    pub hand_on : i < count → ReadTo s day class taken n0 down up here floor (to_z w32 p) i
+    pub hand_on : i < count → ReadTo s day class taken n0 down up here floor p i
     hand_on l =
         record {
           begun = g.begun;
           within = l;
           place = g.place;
           left = λ all. (g.left all).so;
-          sold = added-back g.sold upto;
+          sold = g.sold.total;
           small = g.sold.small;
           room = record { classes = g.classes.long; marks = g.marks.long; starts = g.starts.long; downs = g.downs.long; ups = g.ups.long };
           classes = g.classes.so;
@@ -208,12 +205,12 @@ module _ (s : List ℕ) (day : DayRecord) where
           ups = g.ups.so;
         }
 
-    pub end : count ≤ i → Decoded s (to_z w32 p) class taken n0 down up
+    pub end : count ≤ i → Decoded s p class taken n0 down up
     end l =
         let h = g.within in
         let n : i ≡ count = omega arith in
         record {
-          sold = rw (added-back g.sold upto, n);
+          sold = rw (g.sold.total, n);
           classes = fill-all _ _ i class h l g.classes;
           marks = fill-all _ _ i taken h l g.marks;
           starts = fill-all _ _ i n0 h l g.starts;
@@ -227,7 +224,7 @@ module _ (s : List ℕ) (day : DayRecord) where
         sym (reading.end (units-steps s day) count i (g.left (λ j k. all j (omega arith))) l)
 
   pub take-up : {class taken : List ℕ} {n0 down up : List ℤ} {here floor i : ℕ} {z : ℤ} → ReadTo s day class taken n0 down up here floor z i
-      → Going class taken n0 down up here floor (of_z w32 z) i
+      → Going class taken n0 down up here floor z i
   take-up r =
       record {
         begun = r.begun;

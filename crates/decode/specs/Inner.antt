@@ -1,5 +1,5 @@
 -- What inner functions ask of each other: no promise rests on it.
-use Rattle.std.specs.Prelude.{ℕ, ◌+◌, ◌-◌, ◌*◌, ◌≤◌, ◌<◌, ◌≡◌, Bool, true, false, List, ◌++◌, ℤ, length, set, drop}
+use Rattle.std.specs.Prelude.{ℕ, ◌-◌, ◌*◌, ◌≤◌, ◌<◌, ◌≡◌, Bool, true, false, List, ◌++◌, ℤ, length, set, drop}
 use Rattle.numbers.specs.Range.{Within}
 use Rattle.numbers.specs.Sum.{sum_z, bit}
 use Rattle.terms.specs.Reply.{Reply, is}

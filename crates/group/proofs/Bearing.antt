@@ -10,7 +10,7 @@ use Rattle.numbers.specs.Choice.{pick}
 use Rattle.numbers.specs.Sum.{sum, sum_z}
 use Rattle.numbers.proofs.Integers.{zarith, pp, nn, abs-z, minus, one_side}
 use Rattle.numbers.proofs.Choices.{pick_ind}
-use Rattle.terms.specs.Quantities.{size_in-side}
+use Rattle.terms.specs.Quantities.{size_in}
 use Rattle.terms.specs.declared.quantity.Standing.TheVariants.{NotEnabled, Enabled}
 use Rattle.terms.specs.declared.quantity.Direction.{Direction}
 use Rattle.terms.specs.declared.quantity.Direction.TheVariants.{Injections, Withdrawals}
@@ -47,13 +47,13 @@ excess-toward p s =
     (λ a b. omega zarith)
 
 -- the excess in its own direction is its whole size
-whole-size : (e : ℤ) → nat_abs e ≡ size_in-side (direction_of e) e
+whole-size : (e : ℤ) → nat_abs e ≡ size_in (direction_of e) e
 whole-size e =
-    pick_ind (lt_z e (pos 0)) Withdrawals Injections (λ d. nat_abs e ≡ size_in-side d e)
+    pick_ind (lt_z e (pos 0)) Withdrawals Injections (λ d. nat_abs e ≡ size_in d e)
     (λ h. omega (zarith, abs-z e, one_side e, size_in-side Withdrawals e))
     (λ h. omega (zarith, abs-z e, one_side e, size_in-side Injections e))
 
-size-toward : (d : Direction) {m n : ℤ} → Toward m n → size_in-side d m ≤ size_in-side d n
+size-toward : (d : Direction) {m n : ℤ} → Toward m n → size_in d m ≤ size_in d n
 size-toward Injections {m} {n} t = omega (arith, size_in-side Injections m, size_in-side Injections n)
 size-toward Withdrawals {m} {n} t = omega (arith, size_in-side Withdrawals m, size_in-side Withdrawals n)
 

@@ -15,7 +15,7 @@ use Rattle.numbers.proofs.Integers.{zarith, plus, minus, abs-z, one_side}
 use Rattle.numbers.proofs.Choices.{pick_ind}
 use Rattle.numbers.proofs.Columns.{column-at, column-past}
 use Rattle.numbers.proofs.Sums.{sum_to-cong, sum_to-add, sum_to-end, sum-entry}
-use Rattle.terms.specs.Quantities.{standing, size_in-side}
+use Rattle.terms.specs.Quantities.{standing, size_in}
 use Rattle.terms.specs.declared.quantity.Standing.{Standing}
 use Rattle.terms.specs.declared.quantity.Standing.TheVariants.{NotEnabled, Enabled}
 use Rattle.terms.specs.declared.quantity.Direction.{Direction}
@@ -32,10 +32,10 @@ use Rattle.group.proofs.Bearing.{Toward, Bears}
 -- m is n, nearer to zero by c in a direction
 pub record Nearer (d : Direction) (n : ℤ) (c : ℕ) (m : ℤ) : Type 0 where
   pub lost : nat_abs (n -ℤ m) ≡ c
-  pub left : size_in-side d m + c ≡ size_in-side d n
+  pub left : size_in d m + c ≡ size_in d n
   pub toward : Toward m n
 
-pub nearer : (d : Direction) (n : ℤ) (c : ℕ) → c ≤ size_in-side d n → Nearer d n c (nearer_by d n c)
+pub nearer : (d : Direction) (n : ℤ) (c : ℕ) → c ≤ size_in d n → Nearer d n c (nearer_by d n c)
 nearer Injections n c h =
     let m : ℤ = n -ℤ pos c in
     omega (zarith, size_in-side Injections n, size_in-side Injections m, minus n (pos c), minus n m, abs-z (n -ℤ m), one_side n, one_side m, one_side (n -ℤ m))
@@ -98,7 +98,7 @@ module _ (e : ℤ) (n1 : List ℤ) (class : List ℕ) (bears : Bears e n1 class)
         size-at (direction_of e) k n1 class i,
       )
 
-  pub loss-within : Classed n1 class → (i : ℕ) → loss_at e n1 class i ≤ size_in-side (direction_of e) (at n1 i)
+  pub loss-within : Classed n1 class → (i : ℕ) → loss_at e n1 class i ≤ size_in (direction_of e) (at n1 i)
   loss-within h i =
       omega (arith, cut-within NotEnabled i, cut-within Enabled i, both-standings (direction_of e) (get_or class i 0) (at n1 i) (h.known i))
 
@@ -115,7 +115,7 @@ module _ (e : ℤ) (n1 : List ℤ) (class : List ℕ) (bears : Bears e n1 class)
         go (yes l) = column-at f (length n1) i (pos 0) l
         go (no l) =
             let z : at n1 i ≡ pos 0 = get_or-eq_default n1 (pos 0) {n = i} (omega arith) in
-            let c : loss_at e n1 class i ≡ 0 = omega (arith, loss-within classed i, ap (size_in-side (direction_of e)) z, no_size (direction_of e)) in
+            let c : loss_at e n1 class i ≡ 0 = omega (arith, loss-within classed i, ap (size_in (direction_of e)) z, no_size (direction_of e)) in
             column-past f (length n1) i (pos 0) (omega arith) ∙ sym (ap₂ (nearer_by (direction_of e)) z c ∙ nearer-none (direction_of e))
 
     pub step2-nearer : (i : ℕ) → Nearer (direction_of e) (at n1 i) (loss_at e n1 class i) (at (step2_all e n1 class) i)
@@ -125,7 +125,7 @@ module _ (e : ℤ) (n1 : List ℤ) (class : List ℕ) (bears : Bears e n1 class)
     pub loss-of : (k : Standing) (i : ℕ) → standing k (get_or class i 0) ≡ true → loss_at e n1 class i ≡ get_or (cuts_for e k n1 class) i 0
     loss-of k i h = go k (size-of (direction_of e) k (get_or class i 0) (at n1 i) h)
       where
-        go : (k : Standing) → size_of (direction_of e) k (get_or class i 0) (at n1 i) ≡ size_in-side (direction_of e) (at n1 i) → loss_at e n1 class i ≡ get_or (cuts_for e k n1 class) i 0
+        go : (k : Standing) → size_of (direction_of e) k (get_or class i 0) (at n1 i) ≡ size_in (direction_of e) (at n1 i) → loss_at e n1 class i ≡ get_or (cuts_for e k n1 class) i 0
         go NotEnabled s = omega (arith, cut-within Enabled i, both-standings (direction_of e) (get_or class i 0) (at n1 i) (classed.known i))
         go Enabled s = omega (arith, cut-within NotEnabled i, both-standings (direction_of e) (get_or class i 0) (at n1 i) (classed.known i))
 
@@ -156,32 +156,32 @@ module _ (e : ℤ) (n1 : List ℤ) (class : List ℕ) (bears : Bears e n1 class)
 
     -- what those enabled lose, those not enabled have lost before
     pub enabled-last : (i j : ℕ) → standing Enabled (get_or class i 0) ≡ true → 0 < loss_at e n1 class i
-        → standing NotEnabled (get_or class j 0) ≡ true → loss_at e n1 class j ≡ size_in-side (direction_of e) (at n1 j)
+        → standing NotEnabled (get_or class j 0) ≡ true → loss_at e n1 class j ≡ size_in (direction_of e) (at n1 j)
     enabled-last i j hi l hj =
         let some : 0 < share_of e Enabled n1 class = omega (arith, loss-of Enabled i hi, sum-entry (cuts_for e Enabled n1 class) i, cuts-sum Enabled) in
         loss-of NotEnabled j hj ∙ all-cut NotEnabled j (used-up some) ∙ size-of (direction_of e) NotEnabled (get_or class j 0) (at n1 j) hj
 
     -- the laws of `quota`, over the units that stand so
     module _ (k : Standing) where
-      size-here : (i : ℕ) → standing k (get_or class i 0) ≡ true → get_or (sizes_of (direction_of e) k n1 class) i 0 ≡ size_in-side (direction_of e) (at n1 i)
+      size-here : (i : ℕ) → standing k (get_or class i 0) ≡ true → get_or (sizes_of (direction_of e) k n1 class) i 0 ≡ size_in (direction_of e) (at n1 i)
       size-here i h = size-at (direction_of e) k n1 class i ∙ size-of (direction_of e) k (get_or class i 0) (at n1 i) h
 
-      fair-here : (i : ℕ) → standing k (get_or class i 0) ≡ true → 0 < size_in-side (direction_of e) (at n1 i)
+      fair-here : (i : ℕ) → standing k (get_or class i 0) ≡ true → 0 < size_in (direction_of e) (at n1 i)
           → Fair (sizes_of (direction_of e) k n1 class) (share_of e k n1 class) (cuts_for e k n1 class)
       unfolding cuts_for
       fair-here i h l =
           let s : List ℕ = sizes_of (direction_of e) k n1 class in
           cuts-fair s (share_of e k n1 class) (omega (arith, size-here i h, sum-entry s i)) (share-bearable k)
 
-      pub near : (i : ℕ) → standing k (get_or class i 0) ≡ true → 0 < size_in-side (direction_of e) (at n1 i) → let t = sum (sizes_of (direction_of e) k n1 class) in
-          (loss_at e n1 class i * t < share_of e k n1 class * size_in-side (direction_of e) (at n1 i) + t)
-          × (share_of e k n1 class * size_in-side (direction_of e) (at n1 i) < loss_at e n1 class i * t + t)
+      pub near : (i : ℕ) → standing k (get_or class i 0) ≡ true → 0 < size_in (direction_of e) (at n1 i) → let t = sum (sizes_of (direction_of e) k n1 class) in
+          (loss_at e n1 class i * t < share_of e k n1 class * size_in (direction_of e) (at n1 i) + t)
+          × (share_of e k n1 class * size_in (direction_of e) (at n1 i) < loss_at e n1 class i * t + t)
       near i h l = rw (loss-of k i h, ← size-here i h) ((fair-here i h l).near i)
 
       pub larger : (i j : ℕ) → standing k (get_or class i 0) ≡ true → standing k (get_or class j 0) ≡ true
-          → size_in-side (direction_of e) (at n1 j) < size_in-side (direction_of e) (at n1 i)
+          → size_in (direction_of e) (at n1 j) < size_in (direction_of e) (at n1 i)
           → (loss_at e n1 class j ≤ loss_at e n1 class i)
-          × (size_in-side (direction_of e) (at (step2_all e n1 class) j) ≤ size_in-side (direction_of e) (at (step2_all e n1 class) i))
+          × (size_in (direction_of e) (at (step2_all e n1 class) j) ≤ size_in (direction_of e) (at (step2_all e n1 class) i))
       larger i j hi hj l =
           let f = fair-here i hi (omega arith) in
           let si = size-here i hi in
@@ -194,8 +194,8 @@ module _ (e : ℤ) (n1 : List ℤ) (class : List ℕ) (bears : Bears e n1 class)
       pub larger-first : (i j : ℕ) → standing k (get_or class i 0) ≡ true → standing k (get_or class j 0) ≡ true
           → let t = sum (sizes_of (direction_of e) k n1 class) in
           let c = share_of e k n1 class in
-          let m = size_in-side (direction_of e) (at n1 i) in
-          let n = size_in-side (direction_of e) (at n1 j) in
+          let m = size_in (direction_of e) (at n1 i) in
+          let n = size_in (direction_of e) (at n1 j) in
           c * m / t < loss_at e n1 class i → loss_at e n1 class j ≤ c * n / t → (c * n % t < c * m % t) ⊎ ((c * m % t ≡ c * n % t) × ((n < m) ⊎ ((m ≡ n) × (i < j))))
       unfolding cuts_for whole rest
       larger-first i j hi hj odd even =

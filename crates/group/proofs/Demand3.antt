@@ -13,7 +13,7 @@ use Rattle.numbers.specs.Sum.{sum_z, sum_to}
 use Rattle.numbers.proofs.Integers.{zarith, minus, abs-z, one_side}
 use Rattle.numbers.proofs.Choices.{pick_ind}
 use Rattle.numbers.proofs.Sums.{sum_to-cong}
-use Rattle.terms.specs.Quantities.{standing, size_in-side}
+use Rattle.terms.specs.Quantities.{standing, size_in}
 use Rattle.terms.specs.declared.quantity.Standing.{Standing}
 use Rattle.terms.specs.declared.quantity.Standing.TheVariants.{NotEnabled, Enabled}
 use Rattle.terms.specs.declared.quantity.Direction.{Direction}
@@ -32,15 +32,15 @@ use Rattle.group.proofs.Accepting.{bearable-of}
 use Rattle.group.proofs.Cuts as law
 
 -- what is left with nothing on its side is at zero
-gone : (d : Direction) {m n : ℤ} → Toward m n → 0 < size_in-side d n → size_in-side d m ≡ 0 → m ≡ pos 0
+gone : (d : Direction) {m n : ℤ} → Toward m n → 0 < size_in d n → size_in d m ≡ 0 → m ≡ pos 0
 gone Injections {m} {n} t l h = omega (zarith, size_in-side Injections m, size_in-side Injections n, one_side n)
 gone Withdrawals {m} {n} t l h = omega (zarith, size_in-side Withdrawals m, size_in-side Withdrawals n, one_side n)
 
 -- in the direction of an excess above zero lie numbers above zero, and below zero below
-sign : (e n : ℤ) → 0 < size_in-side (direction_of e) n → (lt_z (pos 0) e ≡ true → lt_z (pos 0) n ≡ true) × (lt_z e (pos 0) ≡ true → lt_z n (pos 0) ≡ true)
+sign : (e n : ℤ) → 0 < size_in (direction_of e) n → (lt_z (pos 0) e ≡ true → lt_z (pos 0) n ≡ true) × (lt_z e (pos 0) ≡ true → lt_z n (pos 0) ≡ true)
 sign e n =
     pick_ind (lt_z e (pos 0)) Withdrawals Injections
-    (λ d. 0 < size_in-side d n → (lt_z (pos 0) e ≡ true → lt_z (pos 0) n ≡ true) × (lt_z e (pos 0) ≡ true → lt_z n (pos 0) ≡ true))
+    (λ d. 0 < size_in d n → (lt_z (pos 0) e ≡ true → lt_z (pos 0) n ≡ true) × (lt_z e (pos 0) ≡ true → lt_z n (pos 0) ≡ true))
     (λ h l. omega (zarith, size_in-side Withdrawals n, one_side n))
     (λ h l. omega (zarith, size_in-side Injections n, one_side n))
 

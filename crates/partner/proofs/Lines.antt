@@ -1,5 +1,5 @@
 -- What follows of lines from their one spelling: how long one is, that two of the same values are the same bytes, that what follows a line is not read, and which refusal tells of a value past its limit.
-use Prim.Native.Nat.{ℕ, ◌+◌, ◌/◌, ◌≤◌, ◌<◌}
+use Prim.Native.Nat.{ℕ, ◌/◌, ◌≤◌, ◌<◌}
 use mathlib.Core.Path.{◌≡◌, sym, ap, ◌∙◌}
 use mathlib.Core.Bool.{true, false}
 use mathlib.Core.List.{List, ◌++◌}

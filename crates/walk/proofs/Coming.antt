@@ -19,7 +19,7 @@ use Rattle.walk.specs.declared.table.State.TheVariants.{Fresh, Open, Closed}
 use Rattle.walk.specs.declared.table.Role.{Role}
 use Rattle.walk.specs.declared.table.Role.TheVariants.{Opens, Block, Closes}
 use Rattle.walk.specs.declared.table.Head.{Head}
-use Rattle.walk.specs.Table.{comes, none, body, Coming, the_day, a_group, the_end, length_as, Row, role_or, role_of, body_of, is_block-only, may_come, head_in, block_head_in}
+use Rattle.walk.specs.Table.{comes, none, body, Coming, the_day, a_group, the_end, length_as, Row, role_or, role_of, body_of, is_block, may_come, head_in, block_head_in}
 
 -- the table, row by row: what holds of each of its records holds of whatever may come
 by_row : (P : State → ℕ → Type 0) → P Fresh day_kind → P Open group_kind → P Open end_kind → (state : State) (kind : ℕ) → may_come state kind ≡ true → P state kind
@@ -53,7 +53,7 @@ role-else kind d g = simp (ne_eqb kind day_kind d, ne_eqb kind group_kind g) (go
     go false = refl
 
 -- what is a block is no other record, and comes to an open day alone
-pub is_block-only : (role : Role) → is_block-only role ≡ true → role ≡ Block
+pub is_block-only : (role : Role) → is_block role ≡ true → role ≡ Block
 is_block-only Opens e =
     let z : ◌≡◌ {A = ℕ} 0 1 = cc in
     absurd (omega arith)
@@ -64,7 +64,7 @@ is_block-only Closes e =
 
 pub block-open : (state : State) (role : Role) → Coming state role → role ≡ Block → state ≡ Open
 block-open state role (the_day p q) k =
-    let e : is_block-only Opens ≡ is_block-only Block = ap is_block-only (sym q ∙ k) in
+    let e : is_block Opens ≡ is_block Block = ap is_block (sym q ∙ k) in
     let z : ◌≡◌ {A = ℕ} 0 1 = cc in
     absurd (omega arith)
 block-open state role (a_group p q) k = p
@@ -109,7 +109,7 @@ module _ (s : List ℕ) (at : ℕ) (state : State) where
       }
 
   -- a block that came has its group record whole
-  pub group-whole : (h : Head) → head_in s at state ≡ is h → is_block-only h.role ≡ true → at + group_length ≤ length s
+  pub group-whole : (h : Head) → head_in s at state ≡ is h → is_block h.role ≡ true → at + group_length ≤ length s
   group-whole h e k =
       let m = came h e in
       let n : h.end ≡ at + group_length = m.end ∙ ap (λ (x : Role). at + length_in x s at) (is_block-only h.role k) in
@@ -171,7 +171,7 @@ block-came s at state h e =
     let b = need-is _ _ _ _ (need-is _ _ _ _ e).1 in
     let k = is_block-only (role_of (byte_at s at)) b.0 in
     let r = sym (came s at state h b.1).first ∙ k in
-    record { first = k; read = b.1; role = r; long = group-whole s at state h b.1 (ap is_block-only r) }
+    record { first = k; read = b.1; role = r; long = group-whole s at state h b.1 (ap is_block r) }
 
 -- a record that came at a place comes wherever its first byte stands and its length fits
 pub head-moved : (s t : List ℕ) (at to n : ℕ) (state : State) {h : Head} → head_in s at state ≡ is h → h.end ≡ at + n → byte_at t to ≡ byte_at s at → to + n ≤ length t

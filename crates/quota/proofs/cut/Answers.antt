@@ -20,7 +20,6 @@ returns-then-left-eq0 c =
 pub bound-x-requires : goal.bound-x-requires
 bound-x-requires c =
     let m = c.marks_into-left.ensures in
-    
     (marked (let shared : Sharing c.args.sizes.now c.of-ratio.result = sharing c.requires.0 c.of-ratio.ensures.1 c.of-ratio.ensures.2 in shared) m.1 m.0 (omega (arith, c.if-left-eq0.false)), total-small c.requires.0, c.requires.2, places (let shared : Sharing c.args.sizes.now c.of-ratio.result = sharing c.requires.0 c.of-ratio.ensures.1 c.of-ratio.ensures.2 in shared) c.requires.1 m.1)
 
 pub returns : goal.returns

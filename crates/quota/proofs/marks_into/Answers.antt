@@ -1,5 +1,5 @@
 -- `marks_into` meets its contract: after i turns `Marking` holds of i units.
-use Prim.Native.Nat.{◌-◌, ◌<◌}
+use Prim.Native.Nat.{◌<◌}
 use native.Mathlib.Omega.{arith}
 use lib.ListN.{length}
 use Rattle.quota.proofs.Turns.{marking-start, size_is, whole-left, marking-turn, marking-end}

@@ -1,0 +1,18 @@
+-- `block_head_for` meets its contract, test by test.
+use mathlib.Core.Path.{sym, ◌∙◌}
+use Rattle.terms.specs.Reply.{need}
+use Rattle.day.specs.Checking.{block_head_for}
+use Rattle.day.proofs.Lengths.{nothing, something}
+use Rattle.day.proofs.head.block_head_for.Goals as goal
+
+pub returns-then-n-eq0 : goal.returns-then-n-eq0
+unfolding block_head_for need
+returns-then-n-eq0 c = simp (nothing c.if-n-eq0.true)
+
+pub returns-then-not-is_possible : goal.returns-then-not-is_possible
+unfolding block_head_for need
+returns-then-not-is_possible c = simp (something c.if-n-eq0.false, sym c.is_possible.ensures ∙ c.if-not-is_possible.true)
+
+pub returns : goal.returns
+unfolding block_head_for need
+returns c = simp (something c.if-n-eq0.false, sym c.is_possible.ensures ∙ c.if-not-is_possible.false) c.block_head.ensures

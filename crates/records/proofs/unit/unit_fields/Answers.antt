@@ -1,0 +1,16 @@
+-- By the first byte.
+use borrow.Author.Tests.{eq-eqb, ne_eqb}
+use Rattle.records.specs.Layouts.{unit_at}
+use Rattle.records.proofs.unit.unit_fields.Goals as goal
+
+pub interval_fields-requires : goal.interval_fields-requires
+unfolding unit_at
+interval_fields-requires c = rw (eq-eqb _ _ c.if-s-at-eq-INTERVAL_KIND.true) at c.requires
+
+pub returns-then-s-at-eq-INTERVAL_KIND : goal.returns-then-s-at-eq-INTERVAL_KIND
+unfolding unit_at
+returns-then-s-at-eq-INTERVAL_KIND c = rw (eq-eqb _ _ c.if-s-at-eq-INTERVAL_KIND.true) c.interval_fields.ensures
+
+pub returns : goal.returns
+unfolding unit_at
+returns c = rw (ne_eqb _ _ c.if-s-at-eq-INTERVAL_KIND.false) c.body_fields.ensures

@@ -1,0 +1,20 @@
+use Prim.Native.Nat.{ℕ, ◌-◌}
+use mathlib.Core.Path.{◌≡◌}
+use lib.ListN.{length}
+use Rattle.terms.specs.Refusals.{first_fault}
+use Rattle.terms.proofs.FirstRefused.{Left}
+use Rattle.writers.specs.Columns.{Columns, columns, count, floor_at, row_checks}
+use Rattle.writers.specs.Writing.{units_end}
+use Rattle.writers.proofs.columns.check_units.Given as goal
+
+-- the units below i have passed, and floor and end are those of unit i
+pub record Going (k : Columns) (floor end i : ℕ) : Type 0 where
+  pub least : floor ≡ floor_at k i
+  pub on : end ≡ units_end k i
+  pub so : Left (first_fault (row_checks k)) (first_fault (row_checks k) 0 (count k)) (count k) i i
+
+abbrev pub invariant-loop-i : goal.invariant-loop-i
+invariant-loop-i l = Going (columns l.number l.class l.coincide l.nominated l.n l.pc l.step_down l.step_up l.made l.kind l.lower l.upper) l.floor l.end l.i
+
+abbrev pub decreases-loop-i : goal.decreases-loop-i
+decreases-loop-i l = length l.number - l.i
