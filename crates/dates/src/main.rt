@@ -4,8 +4,8 @@
 
 ghost use Rattle.std.specs.Prelude.{◌≤◌, length};
 
-use libc::{STDIN_FILENO, STDOUT_FILENO};
 use shown::show::show;
+use std::io;
 
 const LINE_FEED: u8 = 10;
 
@@ -17,13 +17,15 @@ fn blank() -> [u8; LONGEST] {
 }
 
 // Reads up to the line feed, and gives how many bytes there are with it. Nothing is behind an input that has ended or cannot be read.
-fn read_line(line: &mut [u8]) -> usize
+fn read_line<R: io::Read>(reader: &mut R, line: &mut [u8]) -> usize
     ensures { result ≤ length line.new }
 {
     let mut length = 0;
     while length < line.len() {
-        let got = libc::read(STDIN_FILENO, &mut line[length..length + 1]);
-        if got <= 0 {
+        let Ok(got) = reader.read(&mut line[length..length + 1]) else {
+            return length;
+        };
+        if got == 0 {
             return length;
         }
         if line[length] == LINE_FEED {
@@ -48,17 +50,17 @@ fn bare_length(line: &[u8]) -> usize
     length
 }
 
-// A line that has no line feed has nothing behind what is shown.
-fn write_shown(line: &[u8], room: &mut [u8]) {
+// A line that has no line feed has nothing behind what is shown. Each of the two is written whatever became of the other.
+fn write_shown<W: io::Write>(writer: &mut W, line: &[u8], room: &mut [u8]) {
     let bare = bare_length(line);
     let length = show(&line[..bare], room);
-    io::write_all(STDOUT_FILENO, &room[..length]);
-    io::write_all(STDOUT_FILENO, &line[bare..]);
+    let _ = writer.write_all(&room[..length]);
+    let _ = writer.write_all(&line[bare..]);
 }
 
-fn main() {
+fn main(rt: HostRuntime) {
     let mut line = blank();
     let mut room = blank();
-    let length = read_line(&mut line);
-    write_shown(&line[..length], &mut room);
+    let length = read_line(&mut rt.stdin(), &mut line);
+    write_shown(&mut rt.stdout(), &line[..length], &mut room);
 }

@@ -1,7 +1,7 @@
 // The lines of standard input, one at a time.
 ghost use Rattle.std.specs.Prelude.{◌≤◌};
 
-use libc::STDIN_FILENO;
+use std::io;
 use text::line::{LONGEST, MARK};
 
 const LINE_FEED: u8 = 10;
@@ -45,15 +45,14 @@ fn end_line(input: Input) -> Took {
 }
 
 // The next bytes, where those of the chunk are used up. The input may be over, and with it a last line that has no line feed.
-fn refill(input: Input, chunk: &mut [u8]) -> Took {
-    let got = libc::read(STDIN_FILENO, chunk);
-    if got < 0 {
+fn refill<R: io::Read>(reader: &mut R, input: Input, chunk: &mut [u8]) -> Took {
+    let Ok(got) = reader.read(chunk) else {
         return Took::Failed;
-    }
+    };
     if 0 < got {
         return Took::More(Input {
             at: 0,
-            end: io::count(got, chunk),
+            end: got,
             lines: input.lines,
             length: input.length,
         });
@@ -83,7 +82,7 @@ fn take_byte(input: Input, byte: u8, line: &mut [u8]) -> Took {
 }
 
 // One byte, or one read. An end past the chunk counts as the chunk's.
-fn take(input: Input, chunk: &mut [u8], line: &mut [u8]) -> Took {
+fn take<R: io::Read>(reader: &mut R, input: Input, chunk: &mut [u8], line: &mut [u8]) -> Took {
     let at = input.at;
     if at < least(input.end, chunk.len()) {
         let after = Input {
@@ -94,11 +93,16 @@ fn take(input: Input, chunk: &mut [u8], line: &mut [u8]) -> Took {
         };
         return take_byte(after, chunk[at], line);
     }
-    refill(input, chunk)
+    refill(reader, input, chunk)
 }
 
 // The next line. Nothing says that the input ends, so the turns are counted down from a number that no run uses up.
-pub fn next_line(from: Input, chunk: &mut [u8], line: &mut [u8]) -> Took {
+pub fn next_line<R: io::Read>(
+    reader: &mut R,
+    from: Input,
+    chunk: &mut [u8],
+    line: &mut [u8],
+) -> Took {
     let mut input = Input {
         at: from.at,
         end: from.end,
@@ -107,7 +111,7 @@ pub fn next_line(from: Input, chunk: &mut [u8], line: &mut [u8]) -> Took {
     };
     let mut left = u64::MAX;
     while 0 < left {
-        let took = take(input, chunk, line);
+        let took = take(reader, input, chunk, line);
         let Took::More(next) = took else {
             return took;
         };

@@ -6,10 +6,22 @@ mod outcome;
 mod told;
 mod turns;
 
-fn main() {
-    let mut chunk = io::large_buffer();
+use std::process::ExitCode;
+
+// The bytes that are read at once, and those that wait to be written.
+const ROOM: usize = 65536;
+
+fn main(rt: HostRuntime) -> ExitCode {
+    let mut chunk = [0; ROOM];
     let mut line = [0; input::LINE];
-    let mut output = io::large_buffer();
-    let outcome = turns::make(&mut chunk, &mut line, &mut output);
-    outcome::tell(outcome, &line);
+    let mut output = [0; ROOM];
+    let outcome = turns::make(
+        &mut rt.stdin(),
+        &mut rt.stdout(),
+        &mut chunk,
+        &mut line,
+        &mut output,
+    );
+    outcome::tell(&mut rt.stderr(), outcome, &line);
+    outcome.status()
 }

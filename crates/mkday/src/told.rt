@@ -1,16 +1,16 @@
 // What a refusal says: its number and its line, and on the line after them a sentence for a person.
 use crate::input::least;
-use libc::STDERR_FILENO;
 use making::spot::{LONGEST_SHOWN, Spot, show};
 use numbers::signed::magnitude;
+use std::io;
 use text::line::mark_length;
 
-fn say(bytes: &[u8]) {
-    io::write_all(STDERR_FILENO, bytes);
+pub fn say<W: io::Write>(err: &mut W, bytes: &[u8]) {
+    let _ = err.write_all(bytes);
 }
 
 // The part of a list that has so many bars before it; the last part where there are fewer.
-fn say_part(list: &[u8], bars: usize) {
+fn say_part<W: io::Write>(err: &mut W, list: &[u8], bars: usize) {
     let mut left = bars;
     let mut start = 0;
     let mut next = 0;
@@ -19,21 +19,22 @@ fn say_part(list: &[u8], bars: usize) {
         next += 1;
         if byte == b'|' {
             if left == 0 {
-                say(&list[start..next - 1]);
+                say(err, &list[start..next - 1]);
                 return;
             }
             left -= 1;
             start = next;
         }
     }
-    say(&list[start..]);
+    say(err, &list[start..]);
 }
 
 // A record's word, then its fields as docs/TEXT.md has them, each by its name and by what it has to be. Twice its index of bars stand
 // before its name. Of a word that no record has nothing is asked here: it may not come.
-fn say_of_record(kind: u8, bars: usize) {
+fn say_of_record<W: io::Write>(err: &mut W, kind: u8, bars: usize) {
     match kind {
         1 => say_part(
+            err,
             b"DAY|\
               |day|a whole number from 0 to 65535 or a date such as 2026-01-14\
               |quarters|a whole number from 0 to 255\
@@ -44,6 +45,7 @@ fn say_of_record(kind: u8, bars: usize) {
             bars,
         ),
         2 => say_part(
+            err,
             b"GROUP|\
               |BRP|a whole number from 0 to 65535\
               |zone|a whole number from 0 to 255\
@@ -54,6 +56,7 @@ fn say_of_record(kind: u8, bars: usize) {
             bars,
         ),
         3 => say_part(
+            err,
             b"UNIT|\
               |number|a whole number from 0 to 65535\
               |class|a whole number from 0 to 255\
@@ -70,6 +73,7 @@ fn say_of_record(kind: u8, bars: usize) {
             bars,
         ),
         _ => say_part(
+            err,
             b"END|\
               |groups|a whole number from 0 to 4294967295\
               |after the last field|a field of the line",
@@ -79,30 +83,32 @@ fn say_of_record(kind: u8, bars: usize) {
 }
 
 // A part of the line as a person can read it.
-fn say_shown(line: &[u8], from: usize, to: usize, room: &mut [u8]) {
+fn say_shown<W: io::Write>(err: &mut W, line: &[u8], from: usize, to: usize, room: &mut [u8]) {
     let end = least(to, line.len());
     let start = least(from, end);
     let count = show(&line[start..end], room);
-    say(&room[..count]);
+    say(err, &room[..count]);
 }
 
 // The word that was found, behind the mark that may stand in front of the line.
-fn say_word(line: &[u8], number: u64, start: usize, end: usize) {
+fn say_word<W: io::Write>(err: &mut W, line: &[u8], number: u64, start: usize, end: usize) {
     let mark = mark_length(line, number);
     let mut room = [0; LONGEST_SHOWN];
-    say_shown(&line[mark..], start, end, &mut room);
+    say_shown(err, &line[mark..], start, end, &mut room);
 }
 
-fn say_number(value: i32) {
+fn say_number<W: io::Write>(err: &mut W, value: i32) {
     if value < 0 {
-        say(b"-");
+        say(err, b"-");
     }
-    io::print_decimal(STDERR_FILENO, magnitude(value) as u64);
+    let size = magnitude(value);
+    let _ = write!(err, "{size}");
 }
 
 // What is wrong, by the refusal's number from 0 on: with the line or the text, where no field is told, or with a value.
-fn say_why(number: u8) {
+fn say_why<W: io::Write>(err: &mut W, number: u8) {
     say_part(
+        err,
         b"longer than 255 bytes in front of its comment\
           |the text stops early\
           |nothing may come here\
@@ -119,83 +125,94 @@ fn say_why(number: u8) {
 }
 
 // What is wrong with a value. N, the fifth field of a unit, is told by 7 though it is no flag, and the lower end, the tenth, by 9 of the ends.
-fn say_wrong(index: u8, number: u8) {
+fn say_wrong<W: io::Write>(err: &mut W, index: u8, number: u8) {
     if number == 7 && index == 5 {
-        say(b"not 0 though not nominated");
+        say(err, b"not 0 though not nominated");
         return;
     }
     if number == 9 && index == 10 {
-        say(b"above the upper end");
+        say(err, b"above the upper end");
         return;
     }
     if number == 19 {
-        say(b"of an interval that leaves no room between the margins");
+        say(
+            err,
+            b"of an interval that leaves no room between the margins",
+        );
         return;
     }
-    say_why(number);
+    say_why(err, number);
 }
 
 // A value that the writers refuse.
-fn say_value(kind: u8, index: u8, value: i32, number: u8) {
-    say(b", ");
-    say_of_record(kind, (index as usize) * 2);
-    say(b": ");
-    say_number(value);
-    say(b" is ");
-    say_wrong(index, number);
+fn say_value<W: io::Write>(err: &mut W, kind: u8, index: u8, value: i32, number: u8) {
+    say(err, b", ");
+    say_of_record(err, kind, (index as usize) * 2);
+    say(err, b": ");
+    say_number(err, value);
+    say(err, b" is ");
+    say_wrong(err, index, number);
 }
 
 // A field that is not in the form.
-fn say_field(kind: u8, index: u8, start: usize, end: usize, line: &[u8], at: u64) {
+fn say_field<W: io::Write>(
+    err: &mut W,
+    kind: u8,
+    index: u8,
+    start: usize,
+    end: usize,
+    line: &[u8],
+    at: u64,
+) {
     let bars = (index as usize) * 2;
-    say(b", ");
-    say_of_record(kind, bars);
+    say(err, b", ");
+    say_of_record(err, kind, bars);
     if end <= start {
-        say(b": missing");
+        say(err, b": missing");
         return;
     }
-    say(b": ");
-    say_word(line, at, start, end);
-    say(b" is not ");
-    say_of_record(kind, bars + 1);
+    say(err, b": ");
+    say_word(err, line, at, start, end);
+    say(err, b" is not ");
+    say_of_record(err, kind, bars + 1);
 }
 
-fn say_came(kind: u8, start: usize, end: usize, line: &[u8], at: u64) {
-    say(b": ");
+fn say_came<W: io::Write>(err: &mut W, kind: u8, start: usize, end: usize, line: &[u8], at: u64) {
+    say(err, b": ");
     if kind == 0 {
-        say_word(line, at, start, end);
+        say_word(err, line, at, start, end);
     } else {
-        say_of_record(kind, 0);
+        say_of_record(err, kind, 0);
     }
-    say(b" may not come here");
+    say(err, b" may not come here");
 }
 
-fn say_spot(number: u8, at: u64, spot: Spot, line: &[u8]) {
+fn say_spot<W: io::Write>(err: &mut W, number: u8, at: u64, spot: Spot, line: &[u8]) {
     match spot {
         Spot::Nowhere => {
-            say(b": ");
-            say_why(number);
+            say(err, b": ");
+            say_why(err, number);
         }
-        Spot::Came(kind) => say_came(kind, 0, 0, line, at),
+        Spot::Came(kind) => say_came(err, kind, 0, 0, line, at),
         Spot::Word(kind, index, start, end) => {
             if number == 2 {
-                say_came(kind, start, end, line, at);
+                say_came(err, kind, start, end, line, at);
             } else {
-                say_field(kind, index, start, end, line, at);
+                say_field(err, kind, index, start, end, line, at);
             }
         }
-        Spot::Value(kind, index, value) => say_value(kind, index, value, number),
+        Spot::Value(kind, index, value) => say_value(err, kind, index, value, number),
     }
 }
 
 // The number and the line, for a program to read; then the line, the field by its name, and what is wrong with it.
-pub fn tell_refusal(number: u8, at: u64, spot: Spot, line: &[u8]) {
-    say(b"REFUSED ");
-    io::print_decimal(STDERR_FILENO, number as u64);
-    say(b" ");
-    io::print_decimal(STDERR_FILENO, at);
-    say(b"\nmkday: line ");
-    io::print_decimal(STDERR_FILENO, at);
-    say_spot(number, at, spot, line);
-    say(b"\n");
+pub fn tell_refusal<W: io::Write>(err: &mut W, number: u8, at: u64, spot: Spot, line: &[u8]) {
+    say(err, b"REFUSED ");
+    let _ = write!(err, "{number}");
+    say(err, b" ");
+    let _ = write!(err, "{at}");
+    say(err, b"\nmkday: line ");
+    let _ = write!(err, "{at}");
+    say_spot(err, number, at, spot, line);
+    say(err, b"\n");
 }

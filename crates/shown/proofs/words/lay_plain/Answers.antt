@@ -1,0 +1,10 @@
+-- The table is that of all pairs.
+use mathlib.Core.Path.{refl}
+use Rattle.numbers.specs.Column.{column}
+use Rattle.lines.specs.Inner.{digit_pairs}
+use borrow.Author.Rules.{rules}
+use Rattle.shown.proofs.words.lay_plain.Goals as goal
+
+pub lay_u32_field-requires : goal.lay_u32_field-requires
+unfolding digit_pairs column
+lay_u32_field-requires c = (search rules, refl)
