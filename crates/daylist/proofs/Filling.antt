@@ -1,44 +1,31 @@
 -- What the pieces of a turn leave: at hand what was and behind it what a read gave, once the lines that wait are written.
-use Prim.Native.Nat.{ℕ, ◌+◌, ◌-◌, ◌≤◌, ◌<◌}
+use Prim.Native.Nat.{ℕ, ◌-◌, ◌≤◌, ◌<◌}
 use mathlib.Core.Path.{◌≡◌, refl, sym, ap, ◌∙◌}
 use mathlib.Core.Bool.{Bool, true, false}
 use mathlib.Core.List.{List, [], ◌∷◌, ◌++◌, append_assoc, append-nil}
 use native.Mathlib.Omega.{arith}
 use borrow.Author.Tests.{lt-ltb, le-ltb}
-use lib.IntN.{ℤ, pos, negsuc}
-use lib.Signed.{lt_z}
+use lib.IntN.{pos, negsuc}
 use lib.ListN.{length, take, drop, length-append, length-drop, drop_of_length-le}
 use lib.Seq.{length-take-le, take_all, take-append-le, take_at, drop-drop}
+use Rattle.std.specs.Prelude.{Result, Ok, Err, MatchResult}
+use Rattle.std.specs.Io.{ReadsAtMost}
 use Rattle.numbers.specs.Bytes.{laid_at}
-use Rattle.numbers.proofs.Integers.{zarith}
 use Rattle.numbers.proofs.Laid.{laid-front, laid_none}
-use Rattle.libc.specs.Io.{Moved}
-use Rattle.io.specs.Counts.{clamp_len}
 use Rattle.listing.specs.declared.list.Listed.{Listed}
 use Rattle.listing.specs.Listing.{waits, answer_of, list_of, Lists}
 use Rattle.listing.proofs.Inside.{written_by, step-long}
 use Rattle.listing.proofs.Whole.{waits-short}
-use Rattle.daylist.specs.declared.work.Run.TheVariants.{InputFailed}
 use Rattle.daylist.specs.declared.work.Work.{Work}
 use Rattle.daylist.specs.Inner.{Places}
-use Rattle.daylist.specs.Works.{is_going, hand_of, stopped_by, wrote_by, WroteOut, read_by, Read, gave, failed, Refilled, more, none, Waited, unread, wrote, list_step}
+use Rattle.daylist.specs.Works.{is_going, hand_of, wrote_by, WroteOut, read_by, Read, gave, failed, Refilled, more, none, Waited, unread, wrote, list_step}
 use Rattle.daylist.proofs.Buffers.{hand-read, moved}
 
--- ---- what a read answered, by its sign
-module _ (w : Work) (from end : ℕ) where
-  pub read-failed : (got : ℤ) → lt_z got (pos 0) ≡ true → stopped_by w InputFailed 0 ≡ read_by w from end got
-  read-failed (pos n) e = absurd (omega zarith)
-  read-failed (negsuc n) e = refl
-
-  pub read-counted : (got : ℤ) (most n : ℕ) → lt_z got (pos 0) ≡ false → Moved most got → n ≡ clamp_len got most → read_by w from end (pos n) ≡ read_by w from end got
-  read-counted (pos k) most n e m c =
-      let all : n ≡ k = omega arith in
-      ap (λ (j : ℕ). read_by w from end (pos j)) all
-  read-counted (negsuc k) most n e m c = absurd (omega zarith)
-
-  pub read-answered : {free : List ℕ} {r : Work} (got : ℤ) → Moved (length free) got → r ≡ read_by w from end got → Read w from end free r
-  read-answered (pos n) m e = gave n m e
-  read-answered (negsuc n) m e = failed n e
+-- ---- what a read answered
+pub read-answered : {E : Type 0} {w r : Work} {from end : ℕ} {free : List ℕ} (got : Result ℕ E) → ReadsAtMost got free
+    → MatchResult got (λ (n : ℕ). r ≡ read_by w from end (pos n)) (λ (x : E). r ≡ read_by w from end (negsuc 0)) → Read w from end free r
+read-answered (Ok n) m e = gave n m.0 e
+read-answered (Err x) m e = failed 0 e
 
 -- ---- more of the input, read into the part of the buffer behind the bytes at hand
 module _ {w r : Work} {input free : List ℕ} (p : Places w) (long : length input ≡ 65536) (post : List ℕ) where

@@ -9,17 +9,32 @@ ghost use Rattle.daylist.specs.Works.{is_going, TookTurn};
 ghost use Rattle.daylist.specs.Saying.{Ended, CameTo};
 
 mod plant;
+mod watched;
 mod work;
 
-use libc::STDERR_FILENO;
 use listing::list::{Listed, list_next};
 use naming::name::LINE;
 use plant::plant_line;
+use std::io;
+use std::process::ExitCode;
 use terms::refusal::Refusal;
+use watched::Watched;
 use work::{Run, Work, advanced, flushed, refused, stopped, waited};
 
+// The bytes of either buffer.
+const ROOM: usize = 65536;
+
+// The status of a run whose list nobody reads: what a shell gives for a program that SIGPIPE ended.
+const AS_BY_SIGPIPE: u8 = 141;
+
 // One step of the list; where it waits, what it holds is written and more is read.
-fn turn(w: Work, input: &mut [u8], output: &mut [u8]) -> Work
+fn turn<R: io::Read, W: io::Write>(
+    reader: &mut R,
+    writer: &mut W,
+    w: Work,
+    input: &mut [u8],
+    output: &mut [u8],
+) -> Work
     requires { Places w × ((is_going w.run ≡ true) × ((length input.old ≡ 65536) × (length output.old ≡ 65536))) }
     ensures { TookTurn w input.old output.old result input.new output.new × Places result }
 {
@@ -31,14 +46,19 @@ fn turn(w: Work, input: &mut [u8], output: &mut [u8]) -> Work
     match listed {
         Listed::Taken(part) => advanced(w, part),
         Listed::Refused(stop) => refused(w, stop),
-        Listed::Waits => waited(w, input, output),
-        Listed::Full => flushed(w, output),
+        Listed::Waits => waited(reader, writer, w, input, output),
+        Listed::Full => flushed(writer, w, output),
         Listed::Done => stopped(w, Run::Whole, 0),
     }
 }
 
 // Nothing says that the input ends, so the turns are counted down from a number that no run uses up.
-fn all_turns(input: &mut [u8], output: &mut [u8]) -> Work
+fn all_turns<R: io::Read, W: io::Write>(
+    reader: &mut R,
+    writer: &mut W,
+    input: &mut [u8],
+    output: &mut [u8],
+) -> Work
     requires { (length input.old ≡ 65536) × (length output.old ≡ 65536) }
     ensures { Ended result input.new × Places result }
 {
@@ -46,67 +66,73 @@ fn all_turns(input: &mut [u8], output: &mut [u8]) -> Work
     let mut going = true;
     let mut left = u64::MAX;
     while 0 < left && going {
-        w = turn(w, input, output);
+        w = turn(reader, writer, w, input, output);
         let run = w.run;
         going = run.is_going();
         left -= 1;
     }
-    flushed(w, output)
+    flushed(writer, w, output)
 }
 
 // The line of the refusal, which names the plant.
-fn say_plant(w: Work, r: Refusal, input: &[u8])
+fn say_plant<W: io::Write>(err: &mut W, w: Work, r: Refusal, input: &[u8]) -> io::Result<()>
     requires { CameTo w r × (Ended w input.now × (Places w × (length input.now ≡ 65536))) }
 {
     let mut line = [0; LINE];
     let n = plant_line(w, r, input, &mut line);
-    io::write_all(STDERR_FILENO, b"daylist: ");
-    io::write_all(STDERR_FILENO, &line[..n]);
+    err.write_all(b"daylist: ")?;
+    err.write_all(&line[..n])
 }
 
-fn say_refused(w: Work, r: Refusal, number: u8, place: u64, input: &[u8])
+fn say_refused<W: io::Write>(
+    err: &mut W,
+    w: Work,
+    r: Refusal,
+    number: u8,
+    place: u64,
+    input: &[u8],
+) -> io::Result<()>
     requires { (w.run ≡ Refused r place) × ((number ≡ number_of r.why) × (Ended w input.now × (Places w × (length input.now ≡ 65536)))) }
 {
-    io::write_all(STDERR_FILENO, b"daylist: refused ");
-    io::print_decimal(STDERR_FILENO, number as u64);
-    io::write_all(STDERR_FILENO, b" at ");
-    io::print_decimal(STDERR_FILENO, place);
-    io::write_all(STDERR_FILENO, b"\n");
-    say_plant(w, r, input);
+    write!(err, "daylist: refused {number} at {place}\n")?;
+    say_plant(err, w, r, input)
 }
 
-fn say_input() {
-    io::write_all(STDERR_FILENO, b"daylist: standard input cannot be read\n");
+fn say_input<W: io::Write>(err: &mut W) -> io::Result<()> {
+    err.write_all(b"daylist: standard input cannot be read\n")
 }
 
-fn say_output() {
-    io::write_all(
-        STDERR_FILENO,
-        b"daylist: standard output cannot be written\n",
-    );
+fn say_output<W: io::Write>(err: &mut W) -> io::Result<()> {
+    err.write_all(b"daylist: standard output cannot be written\n")
 }
 
 // A list that is not whole is said to be so; where the turns were used up it is the input that did not end.
-fn say(w: Work, input: &[u8])
+fn say<W: io::Write>(err: &mut W, w: Work, input: &[u8]) -> io::Result<()>
     requires { Ended w input.now × (Places w × (length input.now ≡ 65536)) }
 {
     let run = w.run;
     match run {
-        Run::Going => say_input(),
-        Run::Whole => {}
+        Run::Going => say_input(err),
+        Run::Whole => Ok(()),
         Run::Refused(r, place) => {
             let why = r.why;
             let number = why.number();
-            say_refused(w, r, number, place, input)
+            say_refused(err, w, r, number, place, input)
         }
-        Run::InputFailed => say_input(),
-        Run::OutputFailed => say_output(),
+        Run::InputFailed => say_input(err),
+        Run::OutputFailed => say_output(err),
     }
 }
 
-fn main() {
-    let mut input = io::large_buffer();
-    let mut output = io::large_buffer();
-    let w = all_turns(&mut input, &mut output);
-    say(w, &input);
+// Of a list that nobody reads any more nothing is said. Words that cannot be said change nothing.
+fn main(rt: HostRuntime) -> ExitCode {
+    let mut input = [0; ROOM];
+    let mut output = [0; ROOM];
+    let mut list = Watched::new(rt.stdout());
+    let w = all_turns(&mut rt.stdin(), &mut list, &mut input, &mut output);
+    if list.is_unread() {
+        return ExitCode::from(AS_BY_SIGPIPE);
+    }
+    let _ = say(&mut rt.stderr(), w, &input);
+    ExitCode::SUCCESS
 }

@@ -1,13 +1,12 @@
 // What the program keeps between two steps of the list.
-ghost use Rattle.std.specs.Prelude.{◌≡◌, ◌+◌, ◌-◌, ◌≤◌, ◌<◌, length, take, drop, true, ◌++◌};
-ghost use Rattle.libc.specs.Io.{Moved};
+ghost use Rattle.std.specs.Prelude.{◌≡◌, ◌+◌, ◌-◌, ◌≤◌, ◌<◌, length, take, drop, true, ◌++◌, pos, negsuc, IfOk, MatchResult};
 ghost use Rattle.daylist.specs.Inner.{Places};
 ghost use Rattle.daylist.specs.declared.work.Run.TheVariants.{Refused};
 ghost use Rattle.daylist.specs.Works.{fresh_work, is_going, held_of, advanced_by, stopped_by, wrote_by, WroteOut, read_by, Read, Refilled, Waited};
 
 use day::value::Day;
-use libc::{STDIN_FILENO, STDOUT_FILENO};
 use listing::list::{Listing, Part, Stop};
+use std::io;
 use terms::refusal::Refusal;
 
 // How far the run is: it goes on, the list is whole, or what ended it.
@@ -131,11 +130,11 @@ fn held(w: Work, output: &[u8]) -> &[u8]
 }
 
 // The lines that wait are written.
-pub fn flushed(w: Work, output: &[u8]) -> Work
+pub fn flushed<W: io::Write>(writer: &mut W, w: Work, output: &[u8]) -> Work
     requires { Places w × (length output.now ≡ 65536) }
     ensures { WroteOut w result × Places result }
 {
-    let taken = io::write_all(STDOUT_FILENO, held(w, output));
+    let taken = writer.write_all(held(w, output)).is_ok();
     wrote(w, taken)
 }
 
@@ -154,57 +153,64 @@ fn move_front(input: &mut [u8], from: usize, end: usize) -> usize
 }
 
 // What a read answered: so many bytes came, none where the input has ended; one that fails is no end of the input.
-fn read_gave(w: Work, from: usize, end: usize, got: isize, free: &[u8]) -> Work
-    requires { Places w × ((from ≤ end) × ((end + length free.now ≡ 65536) × Moved (length free.now) got)) }
-    ensures { (result ≡ read_by w from end got) × Places result }
+fn read_gave(w: Work, from: usize, end: usize, got: io::Result<usize>) -> Work
+    requires { Places w × ((from ≤ end) × IfOk got (λ n. end + n ≤ 65536)) }
+    ensures { MatchResult got (λ n. result ≡ read_by w from end (pos n)) (λ _. result ≡ read_by w from end (negsuc 0)) × Places result }
 {
-    if got < 0 {
-        return stopped(w, Run::InputFailed, 0);
-    }
-    let n = io::count(got, free);
-    let listing = w.listing;
-    let run = w.run;
-    Work {
-        listing,
-        from,
-        end: end + n,
-        full: w.full,
-        ended: n == 0,
-        run,
+    match got {
+        Ok(n) => {
+            let listing = w.listing;
+            let run = w.run;
+            Work {
+                listing,
+                from,
+                end: end + n,
+                full: w.full,
+                ended: n == 0,
+                run,
+            }
+        }
+        Err(_) => stopped(w, Run::InputFailed, 0),
     }
 }
 
 // More is read into the room behind the bytes at hand, which is all that the buffer has there.
-fn read_more(w: Work, from: usize, end: usize, free: &mut [u8]) -> Work
+fn read_more<R: io::Read>(reader: &mut R, w: Work, from: usize, end: usize, free: &mut [u8]) -> Work
     requires { Places w × ((from ≤ end) × ((end + length free.old ≡ 65536) × (0 < length free.old))) }
     ensures { Read w from end free.new result × Places result }
 {
-    let got = libc::read(STDIN_FILENO, free);
-    read_gave(w, from, end, got, free)
+    let got = reader.read(free);
+    read_gave(w, from, end, got)
 }
 
 // More of the input is read, behind the bytes at hand, which are moved to the front where there is no room behind them.
-fn refilled(w: Work, input: &mut [u8]) -> Work
+fn refilled<R: io::Read>(reader: &mut R, w: Work, input: &mut [u8]) -> Work
     requires { Places w × ((length input.old ≡ 65536) × (w.end - w.from < 65536)) }
     ensures { Refilled w input.old result input.new × Places result }
 {
     let end = w.end;
     if end < input.len() {
-        return read_more(w, w.from, end, &mut input[end..]);
+        return read_more(reader, w, w.from, end, &mut input[end..]);
     }
     let n = move_front(input, w.from, end);
-    read_more(w, 0, n, &mut input[n..])
+    read_more(reader, w, 0, n, &mut input[n..])
 }
 
 // The list waits: first what it wrote is handed on, and then more is read.
-pub fn waited(w: Work, input: &mut [u8], output: &[u8]) -> Work
+pub fn waited<R: io::Read, W: io::Write>(
+    reader: &mut R,
+    writer: &mut W,
+    w: Work,
+    input: &mut [u8],
+    output: &[u8],
+) -> Work
     requires { Places w × ((is_going w.run ≡ true) × ((length input.old ≡ 65536) × ((length output.now ≡ 65536) × (w.end - w.from < 65536)))) }
     ensures { Waited w input.old result input.new × Places result }
 {
-    let flushed = flushed(w, output);
+    let flushed = flushed(writer, w, output);
     let run = flushed.run;
     if run.is_going() {
-        return refilled(flushed, input);
+        return refilled(reader, flushed, input);
     }
     flushed
 }
