@@ -1,7 +1,7 @@
-# Sourced by the commands daylist and mkday, which have set `name`, `here`, `usage`, what they `make` and in whose words of the page they
-# tell refusals (`way`), and made `help` and, where they let choose how lines come out (`known`), `filtered`: what their words ask for,
-# where the input comes from, a run of the program, and the exit status. The four lines that say where things lie are others where it is
-# installed.
+# Sourced by the commands daylist and mkday, which have set `name`, `here`, `usage`, what they `make`, what they tell of output that cannot
+# be written (`unwritten`) and in whose words of the page they tell refusals (`way`), and made `help` and, where they let choose how lines
+# come out (`known`), `filtered`: what their words ask for, where the input comes from, a run of the program, and the exit status. The four
+# lines that say where things lie are others where it is installed.
 version=$(cat "$here/VERSION")
 refusals=$here/docs/refusals.txt
 build() { "$here/tools/built" "$1"; }
@@ -103,7 +103,9 @@ run() {
     fi
     trap - HUP INT TERM
     told=$(cat <&5)
-    if [ "${lost-}" ]; then told="$name: standard output cannot be written"; fi
+    # A program whose output nobody reads ends as SIGPIPE ends one; where that signal is ignored, the output is one that cannot be written.
+    if [ "$ended:$told" = 141: ] && sh -c 'kill -s PIPE $$'; then lost=yes ended=0; fi
+    if [ "${lost-}" ]; then told=$unwritten; fi
 }
 
 # The same with its lines as was `chosen`: the program comes last, so that a signal ends it, and what reads its lines ends with it. Lines
