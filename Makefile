@@ -8,7 +8,7 @@
 #   make deb        the same as a Debian package
 #   make check      the gate
 #
-# The library and the programs are x86-64 code: elsewhere the library is for a cross compiler, and no program is installed.
+# The library and the programs are x86-64 code, and so is the prover that makes them.
 # An installed tree may be moved: what lies in it finds the rest by the way from itself.
 
 PREFIX = /usr/local
@@ -33,10 +33,6 @@ SONAME = $(SHARED).$(firstword $(subst ., ,$(VERSION)))
 # The way from a folder to another: $(call way,FROM,TO).
 way = $(shell realpath -ms --relative-to="$(1)" "$(2)")
 
-ifeq ($(shell uname -m),x86_64)
-programs_here = install-programs
-endif
-
 all:
 	@tools/built $(PROGRAMS) $(PARTS) library
 
@@ -46,7 +42,7 @@ lib:
 programs:
 	@tools/built $(PROGRAMS) $(PARTS)
 
-install: install-library install-docs $(programs_here)
+install: install-library install-docs install-programs
 
 install-library: lib
 	$(INSTALL) -d "$(DESTDIR)$(includedir)" "$(DESTDIR)$(libdir)/pkgconfig" "$(DESTDIR)$(mandir)/man3"

@@ -1,12 +1,11 @@
 #!/usr/bin/env python3
-"""The gate: rt's verdict on every listed crate, and then each test of tests/gate.
+"""The gate: rt's verdict on the checkout as it stands, and then each test of tests/gate.
 
-Its very last line is "N passed, M failed", both counted; it exits with 0 only where nothing failed. Tests run two at a time, each
-with its output shown whole and in order. A line `# gate: alone` in a test says that it uses every core by itself,
-`# gate: after NAME` that it uses what that test makes, and `# gate: beside` that it runs from the start beside everything else:
-it follows rt, whose proofs are all made once its standard input ends, and is shown last. target/seconds.tsv keeps the seconds of
-each part, from its start to its end and of a processor, and those of each crate's check, target/gate.txt the last line with the
-commit that it speaks of.
+Its very last line is "N passed, M failed", both counted; it exits with 0 only where nothing failed. rt proves every crate, tries
+every wrong edit and holds each file to the formatter's layout. Tests run two at a time, each with its output shown whole and in
+order. A line `# gate: alone` in a test says that it uses every core by itself, and `# gate: after NAME` that it uses what that
+test makes. target/rt-ci.log keeps what rt said, target/seconds.tsv the seconds of each part, from its start to its end and of a
+processor, target/gate.txt the last line with the commit that it speaks of.
 """
 
 import os
@@ -18,10 +17,8 @@ import threading
 import time
 
 ROOT = pathlib.Path(__file__).resolve().parent.parent
-SECONDS = ROOT / "target" / "seconds.tsv"
+TARGET = ROOT / "target"
 TOGETHER = 2
-# rt starts so many crates that do not need each other and waits for all of them; what runs beside it fills in.
-JOBS = os.environ.get("RT_JOBS") or str(os.cpu_count() or 1)
 
 
 class Part:
@@ -31,22 +28,21 @@ class Part:
         self.name, self.command = name, command
         self.alone = re.search(r"^# gate: alone$", text, re.M) is not None
         self.after = re.findall(r"^# gate: after (\S+)$", text, re.M)
-        self.beside = re.search(r"^# gate: beside$", text, re.M) is not None
         self.said, self.fault, self.seconds, self.spent, self.passed, self.failed = b"", "", 0, 0, 0, 1
         self.started, self.done = False, threading.Event()
 
-    def run(self, live, given=subprocess.DEVNULL):
+    def run(self, live):
         self.started, start = True, time.monotonic()
         try:
-            self.count(self.status(live, given))
+            self.count(self.status(live))
         except OSError as error:
             self.fault = f"{self.name}: could not run: {error}\n"
         finally:
             self.seconds = time.monotonic() - start
             self.done.set()
 
-    def status(self, live, given):
-        process = subprocess.Popen(self.command, cwd=ROOT, stdin=given, stdout=subprocess.PIPE, stderr=subprocess.STDOUT)
+    def status(self, live):
+        process = subprocess.Popen(self.command, cwd=ROOT, stdin=subprocess.DEVNULL, stdout=subprocess.PIPE, stderr=subprocess.STDOUT)
         for line in process.stdout:
             self.said += line
             if live:
@@ -67,6 +63,17 @@ class Part:
 
     def close(self):
         return f"{self.fault}== {self.name}: {self.seconds:.0f} s, of a processor {self.spent:.0f}\n".encode()
+
+
+class Proofs(Part):
+    """rt's part. It fails too without the one line that says that all is well, and where that counts an edit that says nothing."""
+
+    def count(self, status):
+        super().count(status)
+        well = re.findall(rb"^rt: ok; .*$", self.said, re.M)
+        if len(well) != 1 or re.search(rb", \d+ bad\b", well[0]):
+            self.failed += 1
+            self.fault += f"{self.name}: {'an edit is bad' if len(well) == 1 else 'not one line rt: ok'}\n"
 
 
 def show(said):
@@ -108,31 +115,11 @@ def together(parts):
         show(f"== {part.name}\n".encode() + part.said + part.close())
 
 
-class Beside:
-    """Parts that run beside the others: rt is still proving until the pipe that each has as its standard input is closed."""
-
-    def __init__(self, parts):
-        self.parts, (reading, self.writing) = parts, os.pipe()
-        for part in parts:
-            threading.Thread(target=part.run, args=(False, reading), daemon=True).start()
-
-    def tell_proved(self):
-        os.close(self.writing)
-
-    def tell(self):
-        for part in self.parts:
-            part.done.wait()
-            show(f"== {part.name}\n".encode() + part.said + part.close())
-
-
 def keep(parts, whole):
     """The seconds, for tests/seconds."""
-    crates = re.findall(r"^rt: (\w+) proved \((\d+) s\)$", b"".join(part.said for part in parts).decode("utf-8", "replace"), re.M)
-    rows = [("crate", *crate) for crate in crates]
-    rows += [("part", part.name, f"{part.seconds:.0f}", f"{part.spent:.0f}") for part in parts]
+    rows = [("part", part.name, f"{part.seconds:.0f}", f"{part.spent:.0f}") for part in parts]
     rows += [("whole", "the gate", f"{whole:.0f}", f"{sum(part.spent for part in parts):.0f}")]
-    SECONDS.parent.mkdir(exist_ok=True)
-    SECONDS.write_text("".join("\t".join(row) + "\n" for row in rows))
+    (TARGET / "seconds.tsv").write_text("".join("\t".join(row) + "\n" for row in rows))
 
 
 def commit():
@@ -143,16 +130,15 @@ def commit():
 def main():
     os.environ["LC_ALL"] = "C.UTF-8"
     start = time.monotonic()
-    layout, proofs = Part("rt fmt --check", ["tests/layout"]), Part("rt ci", ["env", f"RT_JOBS={JOBS}", "rt", "ci"])
+    proofs = Proofs("rt ci", ["rt", "ci"])
     tests = [Part(f"tests/gate/{path.name}", [path], path.read_text()) for path in sorted((ROOT / "tests" / "gate").iterdir())]
-    parts = [layout, proofs, *tests]
-    tell(layout)
-    # What follows rt must find nothing that an earlier run proved.
-    subprocess.run(["rm", "-rf", ROOT / "target"], check=True)
-    beside = Beside([part for part in tests if part.beside])
+    parts = [proofs, *tests]
+    # rt comes first, so that it sees the checkout as it is.
     tell(proofs)
-    beside.tell_proved()
-    tests = [part for part in tests if not part.beside]
+    # What follows must find nothing that an earlier run built.
+    subprocess.run(["rm", "-rf", TARGET], check=True)
+    TARGET.mkdir()
+    (TARGET / "rt-ci.log").write_bytes(proofs.said)
     while tests:
         run = next((k for k, part in enumerate(tests) if part.alone), len(tests))
         if run:
@@ -160,12 +146,11 @@ def main():
         else:
             tell(tests[0])
         tests = tests[run or 1 :]
-    beside.tell()
     passed, failed = sum(part.passed for part in parts), sum(part.failed for part in parts)
     failed += passed == 0
     keep(parts, time.monotonic() - start)
     print(f"the whole gate: {time.monotonic() - start:.0f} s")
-    (ROOT / "target" / "gate.txt").write_text(f"{commit()}: {passed} passed, {failed} failed\n")
+    (TARGET / "gate.txt").write_text(f"{commit()}: {passed} passed, {failed} failed\n")
     print(f"{passed} passed, {failed} failed")
     return 1 if failed else 0
 

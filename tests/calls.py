@@ -30,11 +30,11 @@ class Function:
 
     def asks(self):
         """The clauses that a caller must meet."""
-        found = re.findall(r"^ *requires \{ (.*?) \}$", self.clauses, re.M | re.S)
+        found = re.findall(r"^ *requires(?: \w+)? \{ (.*?) \}$", self.clauses, re.M | re.S)
         return [" ".join(clause.split()) for clause in found]
 
     def promises(self):
-        return "ensures {" in self.clauses
+        return re.search(r"^ *ensures(?: \w+)? \{", self.clauses, re.M) is not None
 
 
 def functions(crate):

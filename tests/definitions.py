@@ -5,13 +5,13 @@ import re
 
 ROOT = pathlib.Path(__file__).resolve().parent.parent
 WORD = re.compile(r"[^\s(){}\[\];,.]+(?:\.[^\s(){}\[\];,.]+)?")
-USE = re.compile(r"use Rattle·(\w+)(?:·(?:specs|proofs))?\.(specs|proofs)\.([^\s{};]+?)(?:\.\{([^}]*)\}| as ([^\s;]+))")
+USE = re.compile(r"use Rattle\.(\w+)\.(specs|proofs)\.([^\s{};]+?)(?:\.\{([^}]*)\}| as ([^\s;]+))")
 BOUND = re.compile(r"[({]([^(){}:]+) :")
 HEAD = re.compile(r" *(?:abbrev |unfoldable )?(?:pub )?(?:(?:record|data) (\S+)|(\S+)(?=(?: \{[^}]*\})? :(?: |$)))")
 
 
 def crates():
-    return re.findall(r"^(\w+):", (ROOT / "crates.txt").read_text(), re.M)
+    return re.findall(r"^(\w+)(?: \w+)*:", (ROOT / "crates.txt").read_text(), re.M)
 
 
 def counted(lines, comment):

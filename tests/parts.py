@@ -11,12 +11,24 @@ import re
 
 import calls
 import mutate
-from prover import ROOT, is_program
+from prover import ROOT
 
 CALLED = re.compile(r"\b(\w+)\(")
 LAW = re.compile(r"/proofs/(\w+)\.antt:")
 WORD = re.compile(r"[^\s(){}\[\];,.:&!]+")
-USED = re.compile(r"^use (?:crate::)?((?:\w+::)*\w+);\n", re.M)
+USED = re.compile(r"^use (?:crate::)?((?:\w+::)*)(?:(\w+)|\{([^{}]*)\});\n", re.M)
+
+
+def used(item):
+    """What a `use` item of the crate's own names brings, by its path in the crate."""
+    path, name, listed = item.groups()
+    return {path + word.strip() for word in (name or listed).split(",") if word.strip()}
+
+
+def used_without(item, lost):
+    """The item without what is lost, nothing where all of it is."""
+    left = ", ".join(sorted(name.removeprefix(item.group(1)) for name in used(item) - lost))
+    return item.group()[: item.start(1) - item.start()] + f"{item.group(1)}{{{left}}};" if left else ""
 
 
 class Piece:
@@ -26,8 +38,7 @@ class Piece:
         self.name, self.file, self.function = region.function.name, f"src/{region.path.name}", region.function
         above = re.search(r"(?:^ *#\[.*\]\n)*\Z", region.text[: region.header], re.M).start()
         self.text, self.span = region.text[above : region.end], (above, region.end)
-        self.path = self.name.split("::")[1:]
-        self.proof = "/".join(["proofs", *self.path])
+        self.path, self.proof = self.name.split("::")[1:], region.function.proof
 
     def short(self):
         return self.path[-1]
@@ -46,9 +57,12 @@ class Crate:
                     self.functions[region.function.name] = Piece(region)
         self.laws = {path.stem: path.read_text() for path in (self.place / "proofs").glob("*.antt") if path.stem != "Lib"}
 
+    def files_of(self, function):
+        """The files of a function's proof, by their paths in the crate."""
+        return {f"{function.proof}/{path.name}": path.read_text() for path in sorted((self.place / function.proof).glob("*.antt"))}
+
     def proof_of(self, function):
-        path = self.place / function.proof / "Proof.antt"
-        return path.read_text() if path.exists() else ""
+        return "".join(self.files_of(function).values())
 
     def kept(self, names):
         """The functions of these names and all that they rest on, and the laws that their proofs cite."""
@@ -56,7 +70,7 @@ class Crate:
         while open_:
             one = self.functions[open_.pop()]
             functions.add(one.name)
-            laws |= self.cited(self.proof_of(one))
+            laws |= self.cited(one.text + self.proof_of(one))
             called = set(CALLED.findall(one.text))
             proofs = self.proof_of(one) + "".join(self.laws[law] for law in laws)
             for other in self.functions.values():
@@ -65,18 +79,18 @@ class Crate:
         return functions, laws
 
     def module(self, function):
-        return ".".join([f"Rattle·{self.crate}·proofs", "proofs", *function.path])
+        return ".".join(["Rattle", self.crate, "proofs", *function.path])
 
     def cited_by(self, laws):
         """Some laws and those that they cite."""
         return set(laws) | self.cited("".join(self.laws[law] for law in laws))
 
     def cited(self, text):
-        """The laws that a proof cites, and those that these cite."""
+        """The laws that a function or its proof cites, and those that these cite."""
         found, open_ = set(), [text]
         while open_:
             text = open_.pop()
-            new = {law for law in self.laws if law not in found and re.search(rf"·proofs\.proofs\.{law}\b", text)}
+            new = {law for law in self.laws if law not in found and re.search(rf"\bproofs(?:\.|::){law}\b", text)}
             found |= new
             open_ += [self.laws[law] for law in new]
         return found
@@ -114,9 +128,9 @@ class Crate:
 
     def methods_beside(self, names):
         """The methods that rest on none of the functions: a type without one of its methods would be another module to all that use
-        the type, and these would be checked anew. Of a program, of which nothing is checked before, it is all one."""
+        the type, and these would be checked anew."""
         methods = [name for name, one in self.functions.items() if one.path[-2:-1] and one.path[-2][0].isupper()]
-        return [] if is_program(self.crate) else [name for name in methods if not self.kept([name])[0] & set(names)]
+        return [name for name in methods if not self.kept([name])[0] & set(names)]
 
     def without_rest(self, names):
         """What a copy of the crate loses where only these functions are checked: pieces of its files, and files of its proofs."""
@@ -125,12 +139,12 @@ class Crate:
         pieces = [(one.file, *one.span, "") for one in gone]
         lost = {"::".join(one.path) for one in gone}
         for file, text in self.sources.items():
-            pieces += [(file, m.start(), m.end() - 1, "") for m in USED.finditer(text) if m.group(1) in lost]
+            pieces += [(file, m.start(), m.end() - 1, used_without(m, lost)) for m in USED.finditer(text) if used(m) & lost]
         node = self.place / "proofs" / "Lib.antt"
         for m in re.finditer(r"^(?:pub )?mod (\S+)$", node.read_text() if node.exists() else "", re.M):
             if m.group(1) not in laws:
                 pieces.append(("proofs/Lib.antt", m.start(), m.end(), ""))
-        paths = [f"{one.proof}/Proof.antt" for one in gone] + [f"proofs/{law}.antt" for law in self.laws if law not in laws]
+        paths = [path for one in gone for path in self.files_of(one)] + [f"proofs/{law}.antt" for law in self.laws if law not in laws]
         return Rest(pieces, paths)
 
 

@@ -2,31 +2,36 @@
 
 A change has a `crate`, its `pieces`, each a file of the crate as it stands, where a piece of it starts and ends and what
 comes in its place, the `files` that come, and the `function` whose body alone it changes, or None. A check starts from the checked modules of
-the crate as it stands, so that the prover checks anew only what the changes touch; the first of a program starts from nothing,
-since rt keeps none of its modules. What the changed functions do not rest on can be left out (tests/parts.py). The crates must be
-proved.
+the crate as it stands, so that the prover checks anew only what the changes touch. What the changed functions do not rest on can be
+left out (tests/parts.py). The crates must be proved, and the libraries built.
 """
 
 import concurrent.futures
 import copy
+import functools
 import os
 import pathlib
-import platform
 import re
 import shutil
 import subprocess
 import sys
+import tempfile
 import threading
 
 ROOT = pathlib.Path(__file__).resolve().parent.parent
-# What this run works on: checked modules, and a bench for each job.
-RUN = ROOT / "target" / "mutants" / f"run-{os.getpid()}"
+# What this run works on: checked modules, and a bench for each job. rt ci takes no file of Rattle or antt in the checkout but the crates'.
+RUN = pathlib.Path(tempfile.gettempdir()) / f"flehwella-run-{os.getpid()}"
 # Of a processor: a check that others go before may take far longer by the clock.
 SECONDS = 300
 # The changes of one check: with more of them little is saved, and the jobs end less evenly.
 LOT = 16
 # Errors that only say that a proof names what the changed code no longer has, or rests on another that was refused.
-NAMING = ("that can be named from here", "was not admitted", "has no field")
+NAMING = ("that can be named from here", "is not in scope", "was not admitted", "has no field")
+# What is said of a function's goals: of one by its place, of those that a function without a file leaves open.
+UNPROVED = (": it is not proved that ", "`search` did not prove ")
+# An open goal, told by its place in the sources, and the headers above it.
+OPEN = re.compile(r"^note: \S*/src/(\w+\.rt):(\d+):\d+: (it is not proved that .*)$", re.M)
+HEADER = re.compile(r"^impl(?:<[^>]*>)? (\w+)|^( *)(?:#\[.*\] )?(?:pub )?(?:extern \"C\" )?fn (\w+)", re.M)
 REFUSED, PROVED, REJECTED, UNTOLD = "refused", "still proved", "does not compile", "could not tell"
 
 
@@ -36,7 +41,7 @@ def crates():
     for line in (ROOT / "crates.txt").read_text().split("\n"):
         name, colon, below = line.split("#")[0].partition(":")
         if colon:
-            found[name.strip()] = below.split()
+            found[name.split()[0]] = below.split()
     return found
 
 
@@ -44,58 +49,42 @@ def is_program(crate):
     return (ROOT / "crates" / crate / "src" / "main.rt").exists()
 
 
-class Proofs:
-    """The crates' proofs as they stand: all made, or with `follow` made by rt meanwhile, until standard input ends."""
+def built(crate):
+    """Where rt leaves what it makes of a crate."""
+    return ROOT / "crates" / crate / "out"
 
-    def __init__(self, follow=False):
-        self.below, self.made = crates(), threading.Event()
-        if follow:
-            threading.Thread(target=self.wait_for_end, daemon=True).start()
-        else:
-            self.made.set()
 
-    def wait_for_end(self):
-        while os.read(0, 1):
-            pass
-        self.made.set()
+@functools.lru_cache(None)
+def modules_of(crate):
+    """The folder in which rt keeps the crate's checked modules, by the name that this build of the prover gives it."""
+    found = [folder for folder in (built(crate) / "incremental").glob("*") if not folder.name.endswith("-offers")]
+    return found[0] if found else sys.exit(f"{crate} is not built: tools/built makes the programs, the library and ways")
 
-    def are_made(self):
-        return self.made.is_set()
 
-    def have(self, crate):
-        """Whether the crate can be tried: rt leaves a stamp of each that it proved, of a program only when it has run."""
-        needed = [name for name in self.below[crate] if name in self.below] + [crate] * (not is_program(crate))
-        return self.are_made() or all((ROOT / "target" / "stamp" / name).exists() for name in needed)
-
-    def wait_for(self, wanted):
-        """Waits until one of the crates can be tried, and gives those that can."""
-        while not (ready := [crate for crate in wanted if self.have(crate)]):
-            self.made.wait(0.2)
-        return ready
+def is_static(crate):
+    return re.search(rf"^{crate} +staticlib\b", (ROOT / "crates.txt").read_text(), re.M) is not None
 
 
 class Prover:
-    """The kit's prover, called as rt calls it, and behind rt where that is still proving."""
+    """The kit's prover, called as rt calls it."""
 
-    def __init__(self, proofs):
-        self.proofs = proofs
+    def __init__(self):
+        self.below = crates()
         rt = shutil.which("rt") or sys.exit(f"{sys.argv[0]}: rt is not on the PATH")
-        home = pathlib.Path(os.environ.get("RATTLE_HOME") or pathlib.Path(rt).resolve().parent.parent)
-        self.kit = home / "on" / platform.machine()
+        self.kit = pathlib.Path(rt).resolve().parent.parent
         self.spent = threading.local()
-        self.logic = ["--antt-project", home / "logic" / "antt-project.json", "--logic-built", self.kit / "logic-built"]
-        self.folder = self.folder_of_modules()
+        self.logic = ["--antt-project", self.kit / "rattle" / "logic" / "antt-project.json", "--logic-built", self.kit / "logic_built"]
 
     def check(self, crate, file, incremental, sources={}):
-        """The verdict on a crate, over the libraries of target/rlib, or over those that are given by their root files."""
-        words = [self.kit / "bin" / "rattle", "check", "--crate-name", crate, file]
-        for name in ["std"] + self.proofs.below[crate]:
-            own = ROOT / "target" / "rlib" / f"{name}.rlib"
+        """The verdict on a crate, over the libraries that rt built, or over those that are given by their root files."""
+        words = [self.kit / "bin" / "rattle", "check", "--crate-name", crate, file, "--jobs", "1", "--links", f"{crate}="]
+        words += ["--crate-type", "staticlib"] * is_static(crate)
+        for name in ["core"] * bool(sources) + ["std"] + self.below[crate]:
             if name in sources:
-                words += ["--lib", f"{name}:{','.join(self.proofs.below[name])}={sources[name]}"]
+                words += ["--lib", f"{name}:{','.join(['core', 'std', *self.below[name]])}={sources[name]}"]
             else:
-                words += ["--extern", f"{name}={own if own.exists() else self.kit / 'rlib' / f'{name}.rlib'}"]
-        words += ["-L", f"dependency={ROOT / 'target' / 'rlib'}", "-L", f"dependency={self.kit / 'rlib'}"]
+                folder = built(name) / "rlib" if name in self.below else self.kit / "rlibs"
+                words += ["--extern", f"{name}={folder / f'{name}.rlib'}", "-L", f"dependency={folder}"]
         status, said = self.ran(words + self.logic + ["--incremental", incremental])
         verdict = [line for line in said.split("\n") if line.startswith("logic=")]
         if status == 0 and verdict and verdict[-1].startswith("logic=proved"):
@@ -106,9 +95,7 @@ class Prover:
 
     def ran(self, words):
         """How a command ended, negative where it was stopped, and what it said."""
-        # Behind rt a check has a processor only where none else wants it: each change between two costs time.
-        behind = [] if self.proofs.are_made() else ["chrt", "--idle", "0"]
-        limited = ["sh", "-c", f'ulimit -t {SECONDS}; exec "$@"', "sh", *behind]
+        limited = ["sh", "-c", f'ulimit -t {SECONDS}; exec "$@"', "sh"]
         process = subprocess.Popen(limited + words, stdin=subprocess.DEVNULL, stdout=subprocess.PIPE, stderr=subprocess.STDOUT)
         said = process.stdout.read().decode("utf-8", "replace")
         _, status, usage = os.wait4(process.pid, 0)
@@ -121,16 +108,6 @@ class Prover:
         seconds, self.spent.seconds = getattr(self.spent, "seconds", 0), 0
         return seconds
 
-    def folder_of_modules(self):
-        """What this build of the prover calls the folder of checked modules, told by a check of one function."""
-        crate, modules = RUN / "one", RUN / "one.modules"
-        shutil.rmtree(modules, ignore_errors=True)
-        (crate / "src").mkdir(parents=True, exist_ok=True)
-        (crate / "src" / "lib.rt").write_text("pub fn one() -> u8 {\n    1\n}\n")
-        words = [self.kit / "bin" / "rattle", "check", "--crate-name", "one", crate / "src" / "lib.rt"]
-        self.ran(words + ["--extern", f"std={self.kit / 'rlib' / 'std.rlib'}"] + self.logic + ["--incremental", modules])
-        return next(modules.iterdir()).name
-
 
 def remove(path):
     shutil.rmtree(path) if path.is_dir() else path.unlink()
@@ -142,27 +119,15 @@ class Seeds:
     def __init__(self, prover):
         self.prover, self.lock, self.found = prover, threading.Lock(), {}
 
-    def folder(self, crate):
-        return RUN / "seed" / crate / self.prover.folder
-
     def of(self, crate):
-        """rt keeps the checked modules of a library. Of a program there are none before the first check, which leaves those that its
-        changes do not touch."""
         with self.lock:
-            if crate not in self.found and not is_program(crate):
-                self.keep(crate, ROOT / "target" / "rlib" / f"{crate}.rlib" / "toolchain" / "checked")
-            return self.found.get(crate, {})
+            if crate not in self.found:
+                shutil.copytree(modules_of(crate), self.folder(crate))
+                self.found[crate] = {module.name: module.stat().st_ino for module in self.folder(crate).glob("*.oantt")}
+            return self.found[crate]
 
-    def after(self, crate, modules):
-        with self.lock:
-            if crate not in self.found and modules.exists():
-                self.keep(crate, modules)
-
-    def keep(self, crate, modules):
-        if not modules.exists():
-            sys.exit(f"{crate} is not proved: rt check {crate}")
-        shutil.copytree(modules, self.folder(crate), copy_function=os.link if is_program(crate) else shutil.copy2)
-        self.found[crate] = {module.name: module.stat().st_ino for module in self.folder(crate).glob("*.oantt")}
+    def folder(self, crate):
+        return RUN / "seed" / crate / modules_of(crate).name
 
 
 class Bench:
@@ -178,7 +143,7 @@ class Bench:
             for part in ("src",) if self.holds == crates else ("src", "specs", "proofs"):
                 if (ROOT / "crates" / crate / part).exists():
                     shutil.copytree(ROOT / "crates" / crate / part, self.place / crate / part, dirs_exist_ok=True)
-        modules = self.modules() / self.prover.folder
+        modules = self.modules() / modules_of(crates[0]).name
         modules.mkdir(parents=True, exist_ok=True)
         seed = {name: (inode, crate) for crate in crates for name, inode in self.seeds.of(crate).items()}
         there = {entry.name: entry.inode() for entry in os.scandir(modules)}
@@ -209,14 +174,24 @@ class Bench:
         for path in rest.paths if rest else ():
             (self.place / crate / path).unlink(missing_ok=True)
             self.holds = []
-        told = self.prover.check(crate, self.root(crate), self.modules())
-        self.seeds.after(crate, self.modules() / self.prover.folder)
-        return told
+        verdict, said = self.prover.check(crate, self.root(crate), self.modules())
+        return verdict, OPEN.sub(lambda goal: self.named(crate, *goal.groups()), said)
+
+    def named(self, crate, file, line, goal):
+        """What is said of an open goal, as a line of the function that stands there in the crate as it was checked."""
+        kind = name = None
+        for header in HEADER.finditer("\n".join((self.place / crate / "src" / file).read_text().split("\n")[: int(line)])):
+            if header.group(1):
+                kind = header.group(1)
+            else:
+                name = [kind] * (header.group(2) != "") + [header.group(3)]
+        path = [crate] + [file[: -len(".rt")]] * (file not in ("lib.rt", "main.rt")) + name
+        return f"fn {'::'.join(path)}: {goal}"
 
     def check_above(self, crate, above, changes):
         """The verdict on a crate that stands on the changed one: that one and those in between are given as sources, so that of
         them too the prover checks anew only what the changes touch."""
-        below = self.prover.proofs.below
+        below = self.prover.below
         between = [name for name in below[above] if name == crate or crate in below.get(name, [])]
         self.hold([*between, above])
         self.change(crate, changes)
@@ -255,9 +230,9 @@ def errors_of(said):
 
 
 def facts_of(said):
-    """What tells of a fact that no longer holds: an error, or a search that does not close."""
+    """What tells of a fact that no longer holds: an error, or a goal that is not proved."""
     errors = [line for line in errors_of(said) if not any(words in line for words in NAMING)]
-    return errors + [line for line in said.split("\n") if line.startswith("fn ") and "`search` does not close" in line]
+    return errors + [line for line in said.split("\n") if line.startswith("fn ") and any(words in line for words in UNPROVED)]
 
 
 def in_crate(line):
@@ -275,12 +250,12 @@ def complaint(said):
 
 
 class Function:
-    """A function's place in its crate: its name, where its proof stands, and the lines of its body."""
+    """A function's place in its crate: its name, the folder of its proof, and the lines of its body."""
 
     def __init__(self, region):
         path = [region.path.stem] * (region.path.stem not in ("lib", "main")) + region.name.split("::")
         self.name = "::".join([region.crate, *path])
-        self.proof = "/".join(["", "proofs", *path, "Proof.antt:"])
+        self.proof = "/".join(["proofs", *path])
         self.source = re.compile(rf"/src/{re.escape(region.path.name)}:(\d+):")
         self.lines = range(region.text.count("\n", 0, region.start) + 1, region.text.count("\n", 0, region.end) + 2)
 
@@ -288,16 +263,13 @@ class Function:
         """A copy of it under another name, which has no lines of its own."""
         other = copy.copy(self)
         other.name = "::".join([*self.name.split("::")[:-1], name])
-        other.proof = "/".join([*self.proof.split("/")[:-2], name, "Proof.antt:"])
+        other.proof = "/".join([*self.proof.split("/")[:-1], name])
         other.lines = range(0)
         return other
 
-    def proof_file(self):
-        return self.proof.strip("/:")
-
     def has(self, fact):
-        """Whether it is in its own proof, or in the search for one where it has no file, that a fact no longer holds."""
-        return fact.startswith(f"fn {self.name}: ") or self.proof in fact and not fact.startswith("fn ")
+        """Whether it is in its own proof, or in the search for what that leaves, that a fact no longer holds."""
+        return fact.startswith(f"fn {self.name}: ") or not fact.startswith("fn ") and re.search(rf"/{self.proof}/\w+\.antt:", fact) is not None
 
     def is_rejected(self, said):
         """Whether the compiler rejects a line of its body."""
@@ -361,11 +333,10 @@ def lots_of(changes, most=LOT):
 
 class Work:
     """The lots still to try, by crate, each crate's from its last. A bench goes on with the crate that it holds and then takes one that
-    no other holds: programs first, since of each nothing is checked before, and then what has the largest lot, so that short ones are
-    left for the end. At last it helps another."""
+    no other holds, that with the largest lot, so that short ones are left for the end. At last it helps another."""
 
-    def __init__(self, lots, proofs):
-        self.lock, self.held, self.left, self.proofs = threading.Lock(), {}, {}, proofs
+    def __init__(self, lots):
+        self.lock, self.held, self.left = threading.Lock(), {}, {}
         for lot in lots:
             self.left.setdefault(lot[0].crate, []).append(lot)
 
@@ -374,16 +345,15 @@ class Work:
             left = [crate for crate in self.left if self.left[crate]]
             if not left:
                 return None
-            left = self.proofs.wait_for(left)
             if self.held.get(number) not in left:
                 free = [crate for crate in left if crate not in self.held.values()]
-                self.held[number] = max(free or left, key=lambda crate: (is_program(crate), max(map(len, self.left[crate]))))
+                self.held[number] = max(free or left, key=lambda crate: max(map(len, self.left[crate])))
             return self.left[self.held[number]].pop()
 
 
 def try_all(lots, seeds, jobs, try_lot):
     """Hands each lot to `try_lot` with a bench, so many at a time."""
-    work = Work(lots, seeds.prover.proofs)
+    work = Work(lots)
 
     def one(number):
         bench = Bench(seeds, number)
