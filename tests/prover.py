@@ -29,9 +29,10 @@ LOT = 16
 NAMING = ("that can be named from here", "is not in scope", "was not admitted", "has no field")
 # What is said of a function's goals: of one by its place, of those that a function without a file leaves open.
 UNPROVED = (": it is not proved that ", "`search` did not prove ")
-# An open goal, told by its place in the sources, and the headers above it.
-OPEN = re.compile(r"^note: \S*/src/(\w+\.rt):(\d+):\d+: (it is not proved that .*)$", re.M)
-HEADER = re.compile(r"^impl(?:<[^>]*>)? (\w+)|^( *)(?:#\[.*\] )?(?:pub )?(?:extern \"C\" )?fn (\w+)", re.M)
+# An open goal, told by its place in the sources; a function from its attributes to its end; and the type that methods are of.
+OPEN = re.compile(r"^note: (\S*/(\w+)/src/(\w+)\.rt):(\d+):\d+: (it is not proved that .*)$", re.M)
+FUNCTION = re.compile(r"^(?: *#\[.*\]\n)*( *)(?:#\[.*\] )?(?:pub )?(?:extern \"C\" )?fn (\w+)(?:.*\n)+?\1\}$", re.M)
+KIND = re.compile(r"^impl(?:<[^>]*>)? (\w+)", re.M)
 REFUSED, PROVED, REJECTED, UNTOLD = "refused", "still proved", "does not compile", "could not tell"
 
 
@@ -86,6 +87,7 @@ class Prover:
                 folder = built(name) / "rlib" if name in self.below else self.kit / "rlibs"
                 words += ["--extern", f"{name}={folder / f'{name}.rlib'}", "-L", f"dependency={folder}"]
         status, said = self.ran(words + self.logic + ["--incremental", incremental])
+        said = OPEN.sub(named, said)
         verdict = [line for line in said.split("\n") if line.startswith("logic=")]
         if status == 0 and verdict and verdict[-1].startswith("logic=proved"):
             return PROVED, said
@@ -107,6 +109,18 @@ class Prover:
         """The seconds of a processor that checks of this thread took since this was asked last."""
         seconds, self.spent.seconds = getattr(self.spent, "seconds", 0), 0
         return seconds
+
+
+def named(goal):
+    """What is said of an open goal, as a line of the function that stands there, or else as an error at no function's place."""
+    path, crate, module, line, what = goal.groups()
+    text = pathlib.Path(path).read_text()
+    for one in FUNCTION.finditer(text):
+        if text.count("\n", 0, one.start()) < int(line) <= text.count("\n", 0, one.end()) + 1:
+            kind = KIND.findall(text, 0, one.start())[-1:] if one.group(1) else []
+            name = [crate] + [module] * (module not in ("lib", "main")) + kind + [one.group(2)]
+            return f"fn {'::'.join(name)}: {what}"
+    return f"{path}:{line}: error: {what}"
 
 
 def remove(path):
@@ -174,19 +188,7 @@ class Bench:
         for path in rest.paths if rest else ():
             (self.place / crate / path).unlink(missing_ok=True)
             self.holds = []
-        verdict, said = self.prover.check(crate, self.root(crate), self.modules())
-        return verdict, OPEN.sub(lambda goal: self.named(crate, *goal.groups()), said)
-
-    def named(self, crate, file, line, goal):
-        """What is said of an open goal, as a line of the function that stands there in the crate as it was checked."""
-        kind = name = None
-        for header in HEADER.finditer("\n".join((self.place / crate / "src" / file).read_text().split("\n")[: int(line)])):
-            if header.group(1):
-                kind = header.group(1)
-            else:
-                name = [kind] * (header.group(2) != "") + [header.group(3)]
-        path = [crate] + [file[: -len(".rt")]] * (file not in ("lib.rt", "main.rt")) + name
-        return f"fn {'::'.join(path)}: {goal}"
+        return self.prover.check(crate, self.root(crate), self.modules())
 
     def check_above(self, crate, above, changes):
         """The verdict on a crate that stands on the changed one: that one and those in between are given as sources, so that of
