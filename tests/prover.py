@@ -123,25 +123,23 @@ def named(goal):
     return f"{path}:{line}: error: {what}"
 
 
-def remove(path):
-    shutil.rmtree(path) if path.is_dir() else path.unlink()
-
-
 class Seeds:
-    """The checked modules of each crate as it stands, in a copy that no other check touches, by their names and inodes."""
+    """What rt keeps of each crate as it stands, in a copy that no check touches."""
 
     def __init__(self, prover):
-        self.prover, self.lock, self.found = prover, threading.Lock(), {}
+        self.prover, self.lock = prover, threading.Lock()
 
     def of(self, crate):
+        folder = RUN / "seed" / crate
         with self.lock:
-            if crate not in self.found:
-                shutil.copytree(modules_of(crate), self.folder(crate))
-                self.found[crate] = {module.name: module.stat().st_ino for module in self.folder(crate).glob("*.oantt")}
-            return self.found[crate]
+            if not folder.exists():
+                shutil.copytree(modules_of(crate), folder)
+        return folder
 
-    def folder(self, crate):
-        return RUN / "seed" / crate / modules_of(crate).name
+
+def linked(file, to):
+    """A copy of what rt keeps: of a checked module a link suffices, since the prover replaces it and never writes into it."""
+    return (os.link if file.endswith(".oantt") else shutil.copy2)(file, to)
 
 
 class Bench:
@@ -152,21 +150,13 @@ class Bench:
         self.place, self.holds = RUN / f"bench-{number}", []
 
     def lay(self, crates):
-        """A copy of the crates, and their checked modules: links suffice, since the prover replaces a file and never writes into it."""
+        """A copy of the crates, and of their checked modules."""
+        shutil.rmtree(self.modules(), ignore_errors=True)
         for crate in crates:
             for part in ("src",) if self.holds == crates else ("src", "specs", "proofs"):
                 if (ROOT / "crates" / crate / part).exists():
                     shutil.copytree(ROOT / "crates" / crate / part, self.place / crate / part, dirs_exist_ok=True)
-        modules = self.modules() / modules_of(crates[0]).name
-        modules.mkdir(parents=True, exist_ok=True)
-        seed = {name: (inode, crate) for crate in crates for name, inode in self.seeds.of(crate).items()}
-        there = {entry.name: entry.inode() for entry in os.scandir(modules)}
-        for name in there:
-            if name not in seed or there[name] != seed[name][0]:
-                remove(modules / name)
-        for name, (inode, crate) in seed.items():
-            if there.get(name) != inode:
-                os.link(self.seeds.folder(crate) / name, modules / name)
+            shutil.copytree(self.seeds.of(crate), self.modules() / modules_of(crate).name, copy_function=linked, dirs_exist_ok=True)
 
     def modules(self):
         return self.place / "modules"
