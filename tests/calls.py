@@ -8,6 +8,8 @@ from definitions import ROOT, crates
 
 # How many steps behind what a contract names a definition may stand: each step goes to what a definition names.
 STEPS = 2
+# The type that the methods of an impl are of.
+KIND = re.compile(r"^impl(?:<[^>]*>)? (?:[\w:]+(?:<[^>]*>)? for )?(\w+)", re.M)
 CONSTANT = re.compile(r"\b((?:[A-Z]\w*[a-z]\w*::)?[A-Z][A-Z0-9_]*)\b")
 
 
@@ -48,7 +50,7 @@ def functions_in(crate, path, text):
     kind = []
     for item in re.split(r"^(?=impl\b|\}$| *(?:pub (?:extern \"C\" )?)?fn )", text, flags=re.M):
         if item.startswith("impl"):
-            kind = [re.match(r"impl(?:<[^>]*>)? (\w+)", item).group(1)]
+            kind = [KIND.match(item).group(1)]
         elif item.startswith("}"):
             kind = []
         elif re.match(r" *(?:pub (?:extern \"C\" )?)?fn ", item):
@@ -93,7 +95,7 @@ def parts_of(crate, file, text):
         return {(where, name): d.lines() for name, d in definitions.Module(text).definitions.items()}
     found = {function.name: function.clauses + function.body for function in functions_in(crate, path, text)}
     for item in re.split(r"^(?=impl\b|\}$)", text, flags=re.M):
-        kind = "".join(re.findall(r"\Aimpl(?:<[^>]*>)? (\w+)", item))
+        kind = "".join(KIND.findall(item.split("\n")[0]))
         for name, value in re.findall(r"^ *(?:pub )?const (\w+): (.*?);$", item, re.M | re.S):
             found[f"const {kind}::{name}" if kind else f"const {name}"] = value
     return found

@@ -8,10 +8,13 @@ Contracts, comments, `use` items and declarations of types are left alone.
 import re
 
 import prover
+from calls import KIND
 
 TOKEN = re.compile(
     r"//[^\n]*|\s+|[A-Za-z_]\w*|\d+(?:[ui](?:8|16|32|64|size))?|<=|>=|==|!=|&&|\|\||=>|->|\+=|-=|::|\.\.|'[a-z]+|."
 )
+# In a body a string is one token, whose brackets and semicolons are none of the code's; of a constant it is the value.
+IN_BODY = re.compile(rf'"(?:[^"\\]|\\[\s\S])*"|{TOKEN.pattern}')
 COMPARE = {"<": "<=", "<=": "<", ">": ">=", ">=": ">", "==": "!=", "!=": "=="}
 RECKON = {"+": "-", "-": "+", "*": "+", "/": "*", "%": "/", "+=": "-=", "-=": "+=", "&&": "||", "||": "&&"}
 WORDS = {
@@ -44,9 +47,9 @@ class Token:
         return self.is_word() and self.text not in ("return", "in", "if", "else", "match", "while", "as") or self.is_number() or self.text in (")", "]")
 
 
-def tokens_of(text, start, end):
+def tokens_of(text, start, end, token):
     found = []
-    for m in TOKEN.finditer(text, start, end):
+    for m in token.finditer(text, start, end):
         if not m.group().isspace() and not m.group().startswith("//"):
             found.append(Token(m.group(), m.start()))
     return found
@@ -99,7 +102,7 @@ class Region:
         self.crate, self.path, self.text, self.name, self.kinds = crate, path, text, name, kinds
         self.start, self.end, self.header = start, end, header
         self.function = None if kinds is None else prover.Function(self)
-        self.tokens = tokens_of(text, start, end)
+        self.tokens = tokens_of(text, start, end, TOKEN if kinds is None else IN_BODY)
         self.partner = {}
         stack = []
         for i, t in enumerate(self.tokens):
@@ -283,7 +286,7 @@ def regions_of(crate, path, text):
         starts.append(starts[-1] + len(line) + 1)
     kind, function, header, body = "", None, 0, None
     for k, line in enumerate(lines):
-        m = re.match(r"impl(?:<[^>]*>)? (\w+)", line)
+        m = KIND.match(line)
         if m:
             kind = m.group(1) + "::"
         elif line == "}":

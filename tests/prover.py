@@ -18,6 +18,8 @@ import sys
 import tempfile
 import threading
 
+from calls import KIND
+
 ROOT = pathlib.Path(__file__).resolve().parent.parent
 # What this run works on: checked modules, and a bench for each job. rt ci takes no file of Rattle or antt in the checkout but the crates'.
 RUN = pathlib.Path(tempfile.gettempdir()) / f"flehwella-run-{os.getpid()}"
@@ -29,10 +31,9 @@ LOT = 16
 NAMING = ("that can be named from here", "is not in scope", "was not admitted", "has no field")
 # What is said of a function's goals: of one by its place, of those that a function without a file leaves open.
 UNPROVED = (": it is not proved that ", "`search` did not prove ")
-# An open goal, told by its place in the sources; a function from its attributes to its end; and the type that methods are of.
+# An open goal, told by its place in the sources, and a function from its attributes to its end.
 OPEN = re.compile(r"^note: (\S*/(\w+)/src/(\w+)\.rt):(\d+):\d+: (it is not proved that .*)$", re.M)
 FUNCTION = re.compile(r"^(?: *#\[.*\]\n)*( *)(?:#\[.*\] )?(?:pub )?(?:extern \"C\" )?fn (\w+)(?:.*\n)+?\1\}$", re.M)
-KIND = re.compile(r"^impl(?:<[^>]*>)? (\w+)", re.M)
 REFUSED, PROVED, REJECTED, UNTOLD = "refused", "still proved", "does not compile", "could not tell"
 
 
