@@ -1,6 +1,6 @@
 # The C library and the programs, built and installed.
 #
-#   make            the library and the programs, proved once for all of them; three to six minutes the first time
+#   make            the library and the programs, proved once for all of them; some minutes the first time
 #   make lib        the library alone, target/libflehwella.a and target/libflehwella.so
 #   make install    PREFIX=/usr/local by default; DESTDIR is put before every path
 #   make uninstall  takes out what install put in
