@@ -80,7 +80,7 @@ fn say_plant<W: io::Write>(err: &mut W, w: Work, r: Refusal, input: &[u8]) -> io
 {
     let mut line = [0; LINE];
     let n = plant_line(w, r, input, &mut line);
-    err.write_all(b"daylist: ")?;
+    let _ = err.write_all(b"daylist: ");
     err.write_all(&line[..n])
 }
 
@@ -94,7 +94,7 @@ fn say_refused<W: io::Write>(
 ) -> io::Result<()>
     requires { (w.run ≡ Refused r place) × ((number ≡ number_of r.why) × (Ended w input.now × (Places w × (length input.now ≡ 65536)))) }
 {
-    write!(err, "daylist: refused {number} at {place}\n")?;
+    let _ = write!(err, "daylist: refused {number} at {place}\n");
     say_plant(err, w, r, input)
 }
 

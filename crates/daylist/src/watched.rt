@@ -30,7 +30,9 @@ impl<W: io::Write> io::Write for Watched<W> {
         match self.writer.write(bytes) {
             Ok(n) => Ok(n),
             Err(e) => {
-                self.unread = e.kind() == io::ErrorKind::BrokenPipe;
+                if e.kind() == io::ErrorKind::BrokenPipe {
+                    self.unread = true;
+                }
                 Err(e)
             }
         }
