@@ -10,6 +10,10 @@ from definitions import ROOT, crates
 STEPS = 2
 # The type that the methods of an impl are of.
 KIND = re.compile(r"^impl(?:<[^>]*>)? (?:[\w:]+(?:<[^>]*>)? for )?(\w+)", re.M)
+# A trait, and whether it is public: what it states, each of its impls does.
+TRAIT = re.compile(r"^(pub )?trait (\w+)")
+# What an impl gives for a ghost member of its trait: a contract of the trait speaks of it.
+LAW = re.compile(r"^ *ghost \w+ = \{ .*? \};$", re.M | re.S)
 CONSTANT = re.compile(r"\b((?:[A-Z]\w*[a-z]\w*::)?[A-Z][A-Z0-9_]*)\b")
 
 
@@ -17,18 +21,29 @@ def libraries():
     return [name for name in crates() if (ROOT / "crates" / name / "src" / "lib.rt").exists()]
 
 
-class Function:
-    """A function: its whole name, where it stands, its clauses and its body, and whether another crate can call it."""
+def stands_on(crate):
+    """The crates that one stands on."""
+    line = re.search(rf"^{crate}\b[^:]*:(.*)$", (ROOT / "crates.txt").read_text(), re.M)
+    return line.group(1).split() if line else []
 
-    def __init__(self, crate, path, kind, text, public):
-        self.crate, self.file, self.public = crate, f"src/{path.name}", public
+
+class Function:
+    """A function: its whole name, where it stands, its clauses and its body, what its impl states, and whether another crate can call it."""
+
+    def __init__(self, crate, path, kind, text, public, laws=""):
+        self.crate, self.file, self.public, self.laws = crate, f"src/{path.name}", public, laws
         self.short = re.match(r".*?\bfn (\w+)", text).group(1)
         module = [path.stem] * (path.stem not in ("lib", "main"))
         self.name = "::".join([crate, *module, *kind, self.short])
         indent = re.match(r" *", text).group()
         body = re.search(r"\{$", text, re.M)
         ended = re.search(rf"^{indent}\}}$", text, re.M)
-        self.clauses, self.body = text[: body.start()], text[body.end() : ended.end() if ended else len(text)]
+        stated = re.search(r";$", text, re.M)
+        self.of_trait = stated is not None and (body is None or stated.start() < body.start())
+        if self.of_trait:
+            self.clauses, self.body = text[: stated.start()], ""
+        else:
+            self.clauses, self.body = text[: body.start()], text[body.end() : ended.end() if ended else len(text)]
 
     def asks(self):
         """The clauses that a caller must meet."""
@@ -47,15 +62,18 @@ def functions(crate):
 
 def functions_in(crate, path, text):
     """The functions of a file of a crate that has the text."""
-    kind = []
-    for item in re.split(r"^(?=impl\b|\}$| *(?:pub (?:extern \"C\" )?)?fn )", text, flags=re.M):
+    kind, stated, laws = [], False, ""
+    for item in re.split(r"^(?=impl\b|(?:pub )?trait\b|\}$| *(?:pub (?:extern \"C\" )?)?fn )", text, flags=re.M):
         if item.startswith("impl"):
-            kind = [KIND.match(item).group(1)]
+            kind, stated, laws = [KIND.match(item).group(1)], False, "\n".join(LAW.findall(item))
+        elif TRAIT.match(item):
+            kind, stated, laws = [TRAIT.match(item).group(2)], TRAIT.match(item).group(1) is not None, ""
         elif item.startswith("}"):
-            kind = []
+            kind, stated, laws = [], False, ""
         elif re.match(r" *(?:pub (?:extern \"C\" )?)?fn ", item):
             inside = kind if item.startswith(" ") else []
-            yield Function(crate, path, inside, item, path.name in shown(crate) and item.lstrip().startswith("pub "))
+            public = path.name in shown(crate) and (stated or item.lstrip().startswith("pub "))
+            yield Function(crate, path, inside, item, public, laws if inside else "")
 
 
 @functools.lru_cache(None)
@@ -96,9 +114,14 @@ def parts_of(crate, file, text):
     found = {function.name: function.clauses + function.body for function in functions_in(crate, path, text)}
     for item in re.split(r"^(?=impl\b|\}$)", text, flags=re.M):
         kind = "".join(KIND.findall(item.split("\n")[0]))
-        for name, value in re.findall(r"^ *(?:pub )?const (\w+): (.*?);$", item, re.M | re.S):
+        for name, value in constants_in(item):
             found[f"const {kind}::{name}" if kind else f"const {name}"] = value
     return found
+
+
+def constants_in(text):
+    """Each constant or static of a text, with its type and value."""
+    return re.findall(r"^ *(?:pub )?(?:const|static) (\w+): (.*?);$", text, re.M | re.S)
 
 
 def touched(crate, edit):
@@ -122,6 +145,7 @@ class Calls:
         self.short = {}
         for function in self.all.values():
             self.short.setdefault(function.short, []).append(function)
+        self.below = {name: {name, *stands_on(name)} for name in crates()}
         self.known = definitions.modules()
         self.texts, self.kept = {}, {}
 
@@ -130,11 +154,17 @@ class Calls:
         return self.texts.setdefault(path, path.read_text())
 
     def called(self, function):
-        """The functions that one names before a bracket: of its own file, or imported there, or by the type before the name."""
+        """The functions that one names before a bracket: of its own file, or imported there, or by the type, or the trait of a type parameter, before the name."""
         names = set(re.findall(r"((?:\w+::)?\w+)\(", function.body))
+        bounds = dict(re.findall(r"\b(\w+): (\w+)", function.clauses.split("(")[0]))
         for name in names:
             kind, _, last = name.rpartition("::")
+            if kind in bounds:
+                kind = bounds[kind]
+                name = f"{kind}::{last}"
             for other in self.short.get(last, []):
+                if other.crate not in self.below[function.crate]:
+                    continue
                 if kind and f"::{other.name}".endswith(f"::{name}") or not kind and self.is_seen(function, other):
                     yield other
 
@@ -155,17 +185,30 @@ class Calls:
                 seen[function.name] = function
                 if parts or function is call or not function.public:
                     open_ += self.called(function)
+                if function.of_trait:
+                    open_ += [one for one in self.short[function.short] if (one.crate, one.file) == (function.crate, function.file)]
         return seen.values()
 
     def cited(self, function, steps=STEPS):
         """The definitions that a function's contract names, and those that stand up to so many steps behind them."""
         imports, aliases = definitions.imports_of(self.source(function))
-        found = set(definitions.cited(function.clauses, None, imports, aliases, self.known))
+        found = set(definitions.cited(function.clauses + function.laws, None, imports, aliases, self.known))
         for _ in range(steps):
             for where, name in list(found):
                 if where in self.known and name in self.known[where].definitions:
                     module, one = self.known[where], self.known[where].definitions[name]
                     found |= set(definitions.cited("\n".join(one.around + one.lines()), where, module.imports, module.aliases, self.known))
+        return found
+
+    def read_by(self, function):
+        """The constants that a function reads, and those of its file that these are made of."""
+        made = dict(constants_in(self.source(function)))
+        found, open_ = set(), CONSTANT.findall(function.body)
+        while open_:
+            name = open_.pop()
+            if name not in found:
+                found.add(name)
+                open_ += CONSTANT.findall(made.get(name, ""))
         return found
 
     def rests_on(self, call, parts):
@@ -174,6 +217,6 @@ class Calls:
             found = set()
             for function in self.reached(call, parts):
                 found |= {function.name} | self.cited(function)
-                found |= {f"const {name}" for name in CONSTANT.findall(function.body)}
+                found |= {f"const {name}" for name in self.read_by(function)}
             self.kept[call.name, parts] = found
         return self.kept[call.name, parts]

@@ -181,7 +181,8 @@ def conditions(r, words):
             yield r.mutant(r.tokens[i + 1].at, r.tokens[i + 1].end, "", "negated")
             continue
         j = i + 1
-        while r.tokens[j].text != "{" or r.is_literal(j):
+        # A test of an arm ends at its arrow.
+        while r.tokens[j].text != "=>" and (r.tokens[j].text != "{" or r.is_literal(j)):
             j = r.partner[j] + 1 if r.tokens[j].text in OPEN else j + 1
         # `==` and `!=` change places among the operators.
         if not any(t.text in ("==", "!=") for t in r.tokens[i + 1 : j]):
@@ -297,6 +298,9 @@ def regions_of(crate, path, text):
             function, header = (kind if line.startswith(" ") else "") + m.group(1), starts[k]
         # Without a contract, the brace stands behind the header.
         opening = re.fullmatch(r"(\s*)(?:.*\bfn \w.* |\).* )?\{", line)
+        # What a trait states has no body.
+        if function and body is None and not m and line.endswith(";"):
+            function = None
         if function and body is None and opening:
             body, closing = starts[k] + len(line) - 1, opening.group(1) + "}"
         elif body and line == closing:
@@ -304,7 +308,7 @@ def regions_of(crate, path, text):
             kinds = dict(tuple(w.strip() for w in p.split(":", 1)) for p in m.group(1).split(",") if ":" in p)
             yield Region(crate, path, text, function, body, starts[k] + len(line), kinds, header)
             function, body = None, None
-        m = re.match(r"\s*(?:pub )?const (\w+): [^=]+ = ", line)
+        m = re.match(r"\s*(?:pub )?(?:const|static) (\w+): [^=]+ = ", line)
         if m and body is None:
             start = starts[k] + m.end()
             end = text.index(";\n", start)

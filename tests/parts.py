@@ -123,7 +123,7 @@ class Crate:
         return set()
 
     def before(self, function, steps):
-        constants = {f"const {name}" for name in calls.CONSTANT.findall(function.body)}
+        constants = {f"const {name}" for name in known().read_by(function)}
         return {function.name} | constants | known().cited(function, steps)
 
     def methods_beside(self, names):

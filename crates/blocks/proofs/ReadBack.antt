@@ -1,6 +1,6 @@
 -- The result of a block that was accepted, read by the layouts, gives the values of its group: each fits its field.
 use Prim.Native.Nat.{ℕ, ◌<◌}
-use mathlib.Core.Path.{◌≡◌, refl, ◌∙◌}
+use mathlib.Core.Path.{◌≡◌, ◌∙◌}
 use mathlib.Core.List.{List, ◌++◌}
 use native.Mathlib.Omega.{arith}
 use lib.IntN.{ℤ, pos, neg_ℤ}
@@ -28,8 +28,8 @@ use Rattle.decode.specs.Block.{block_count}
 use Rattle.blocks.specs.Blocks.{group_in, group_result, group_told, unit_results, result_in, block_group, block_result, unit_result}
 
 -- what an accepted group is judged by
-judged : (g : Group) → Accepted g → Judged (position g) g.n0 g.step_down g.step_up g.class g.n0
-judged g a = judged-by g a refl
+judged : (g : Group) → Accepted g → Judged (position g) g.n0 g.step_down g.step_up g.class
+judged g a = judged-by g a
 
 module _ (g : Group) (a : Accepted g) where
   group-held : (group : GroupRecord) → HeldGroupResult (group_result group (sums_of g))

@@ -1,16 +1,12 @@
 -- "Numbers given back", for the units of a block: each in turn, and what would be used and written.
 use Rattle.std.specs.Prelude.{ℕ, List}
 use Rattle.terms.specs.Reply.{Reply, is, next}
-use Rattle.terms.specs.Refusals.{refusal, no_refusal}
-use Rattle.terms.specs.declared.refusal.Refusal.{Refusal}
 use Rattle.records.specs.declared.day.DayRecord.{DayRecord}
 use Rattle.records.specs.declared.group.GroupRecord.{GroupRecord}
 use Rattle.records.specs.Layouts.{group_length}
 use Rattle.records.specs.Reading.{key_of, judged_by, units_of}
 use Rattle.writers.specs.Results.{result_length}
 use Rattle.blocks.specs.declared.check.Block.{Block}
-use Rattle.blocks.specs.declared.check.BlockAnswer.{BlockAnswer}
-use Rattle.blocks.specs.declared.check.BlockAnswer.TheVariants as B
 
 -- a block of a group record that ends at a place: its result has 27 + 20·count bytes
 abbrev pub block_of : GroupRecord → ℕ → Block
@@ -21,12 +17,3 @@ unfoldable pub block_units_of : List ℕ → GroupRecord → DayRecord → Reply
 block_units_of s group day =
     next (units_of s group_length 0 (judged_by group day) group.count) λ end.
     is (block_of group end)
-
--- an answer as a reply, and the refusal of an answer that is one
-abbrev pub block_reply : BlockAnswer → Reply Block
-block_reply (B.Is b) = is b
-block_reply (B.Refused r) = refusal r
-
-abbrev pub block_refusal : BlockAnswer → Refusal
-block_refusal (B.Is b) = no_refusal
-block_refusal (B.Refused r) = r

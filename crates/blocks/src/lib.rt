@@ -2,5 +2,6 @@
 #![tactic(auto)]
 
 pub mod check;
+mod columns;
 mod lay;
 pub mod result;

@@ -1,13 +1,10 @@
 -- Years and months have their lengths, so their starts rise; the months of a year come to the year, and 8,000 years to 2,921,940 days.
 use Prim.Native.Nat.{ℕ, zero, suc, ◌+◌, ◌*◌, ◌≤◌, ◌<◌}
 use mathlib.Core.Path.{◌≡◌, refl}
-use mathlib.Core.Bool.{Bool, true, false}
+use Rattle.std.proofs.Common.{rules}
 use native.Mathlib.Numerals.{add-one}
 use native.Mathlib.Omega.{arith}
-use native.Mathlib.Decide.{dec_lt}
-use Rattle.numbers.specs.Choice.{pick}
 use Rattle.calendar.specs.Calendar.{is_leap, days_of_year, has_thirty, days_of_month, days_of_years, days_of_months}
-use lib.Dec.{eqb}
 use Rattle.calendar.proofs.Begun.{rise-to}
 
 pub record Range (low high n : ℕ) : Type 0 where
@@ -16,21 +13,11 @@ pub record Range (low high n : ℕ) : Type 0 where
 
 pub year-range : (year : ℕ) → Range 365 366 (days_of_year year)
 unfolding days_of_year
-year-range year = go (is_leap year)
-  where
-    go : (t : Bool) → Range 365 366 (pick t 366 365)
-    go true = record { from = omega arith; to = omega arith }
-    go false = record { from = omega arith; to = omega arith }
+year-range year = search rules
 
 pub month-range : (year month : ℕ) → Range 28 31 (days_of_month year month)
 unfolding days_of_month
-month-range year month = go (eqb month 2) (is_leap year) (has_thirty month)
-  where
-    go : (f t h : Bool) → Range 28 31 (pick f (pick t 29 28) (pick h 30 31))
-    go true true h = record { from = omega arith; to = omega arith }
-    go true false h = record { from = omega arith; to = omega arith }
-    go false t true = record { from = omega arith; to = omega arith }
-    go false t false = record { from = omega arith; to = omega arith }
+month-range year month = search rules
 
 -- ---- years
 pub years-suc : (k : ℕ) → days_of_years (suc k) ≡ days_of_years k + days_of_year (2000 + k)
@@ -60,11 +47,7 @@ years-all = refl
 
 -- the years that are over by a day up to 9999-12-31
 pub years-few : (k n : ℕ) → days_of_years k ≤ n → n < 2921940 → k < 8000
-years-few k n l h = go (dec_lt k 8000)
-  where
-    go : Dec (k < 8000) → k < 8000
-    go (yes y) = y
-    go (no y) = omega (arith, years-all, rise-to days_of_years years-rise 8000 k (omega arith))
+years-few k n l h = grind (arith, years-all, rise-to days_of_years years-rise 8000 k)
 
 -- ---- months
 pub months-suc : (year k : ℕ) → days_of_months year (suc k) ≡ days_of_months year k + days_of_month year (suc k)
@@ -90,15 +73,10 @@ months-rise year a = omega (arith, months-suc year a)
 
 pub months-all : (year : ℕ) → days_of_months year 12 ≡ days_of_year year
 unfolding days_of_months days_of_month has_thirty days_of_year
-months-all year = go (is_leap year)
-  where
-    go : (t : Bool) → 0 + 31 + pick t 29 28 + 31 + 30 + 31 + 30 + 31 + 31 + 30 + 31 + 30 + 31 ≡ pick t 366 365
-    go true = refl
-    go false = refl
+months-all year = search rules
 
-pub months-few : (year k n : ℕ) → days_of_months year k ≤ n → n < days_of_year year → k < 12
-months-few year k n l h = go (dec_lt k 12)
-  where
-    go : Dec (k < 12) → k < 12
-    go (yes y) = y
-    go (no y) = omega (arith, months-all year, rise-to (days_of_months year) (months-rise year) 12 k (omega arith))
+pub months-whole : (year k : ℕ) → k ≡ 12 → days_of_months year k ≡ days_of_year year
+months-whole year k e = rw e (months-all year)
+
+-- what the sums of years and of months ask
+pub ruleset spans = (year-range, years-none, years-more, years-range, years-all, month-range, months-none, months-more, months-range, months-whole)

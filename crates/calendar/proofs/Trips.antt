@@ -2,9 +2,10 @@
 use Prim.Native.Nat.{ℕ, suc, ◌+◌, ◌*◌, ◌-◌, ◌/◌, ◌%◌, ◌≤◌, ◌<◌}
 use mathlib.Core.Path.{◌≡◌}
 use mathlib.Core.Bool.{true}
+use native.Mathlib.Numerals.{add-one}
 use native.Mathlib.Omega.{arith}
 use Rattle.calendar.specs.declared.date.Date.{Date}
-use Rattle.calendar.specs.declared.date.Number.TheVariants.{Is}
+use Rattle.std.specs.Prelude.{Some}
 use Rattle.calendar.specs.declared.moment.Moment.{Moment}
 use Rattle.calendar.specs.Calendar.{days_of_year, days_of_years, days_of_months, is_date, day_number, day_of, is_moment, minute_number, minute_of, years_by, months_by, date_in, date_of, moment_of, last_minute}
 use Rattle.calendar.proofs.Begun.{Between, begun, begun-le, is-begun}
@@ -25,6 +26,13 @@ module _ (year n : ℕ) (h : n < days_of_year year) where
 
 pub month-begun : (year n k : ℕ) → k ≤ 11 → Between (days_of_months year) n k → months_by year n ≡ k
 month-begun year n k l b = is-begun (days_of_months year) (months-rise year) n k 11 l b
+
+pub years_over : (n k : ℕ) → days_of_years k ≤ n → n < days_of_years (k + 1) → years_by n ≡ k
+years_over n k low high = year-begun n k (record { low = low; high = rw (← (add-one k)) high })
+
+pub months_over : (year n k : ℕ) → k < 12 → days_of_months year k ≤ n → n < days_of_months year (k + 1) → months_by year n ≡ k
+months_over year n k few low high =
+    month-begun year n k (omega arith) (record { low = low; high = rw (← (add-one k)) high })
 
 -- ---- from a number to its date and back
 module _ (n : ℕ) (h : n < 2921940) where
@@ -63,7 +71,7 @@ module _ (n : ℕ) (h : n < 2921940) where
       let f : m + 1 - 1 ≡ m = omega arith in
       rw (e, f) (omega arith)
 
-  pub day-date : day_of (date_of n) ≡ Is n
+  pub day-date : day_of (date_of n) ≡ Some n
   unfolding day_of
   day-date = rw (is-valid (date_of n) date-valid, number-date)
 
@@ -96,7 +104,7 @@ module _ (n : ℕ) (h : n ≤ last_minute) where
   unfolding minute_number moment_of
   number-moment = rw (number-date (n / 1440) (omega arith)) (omega arith)
 
-  pub minute-moment : minute_of (moment_of n) ≡ Is n
+  pub minute-moment : minute_of (moment_of n) ≡ Some n
   unfolding minute_of
   minute-moment = rw (is-valid-moment (moment_of n) moment-valid, number-moment)
 

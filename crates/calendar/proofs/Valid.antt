@@ -1,16 +1,14 @@
 -- What a valid date and a valid moment say of each field, and that a valid date lies before the year 10000.
 use Prim.Native.Nat.{suc, ◌+◌, ◌-◌, ◌≤◌, ◌<◌}
 use mathlib.Core.Path.{◌≡◌}
-use mathlib.Core.Bool.{true, ◌&&◌}
+use mathlib.Core.Bool.{true}
 use native.Mathlib.Omega.{arith}
-use borrow.Author.Tests.{leb-true, ltb-true, le-leb, lt-ltb}
-use lib.Dec.{leb, ltb}
-use Rattle.numbers.proofs.Choices.{and_both}
+use Rattle.std.proofs.Common.{rules, tests}
 use Rattle.calendar.specs.declared.date.Date.{Date}
 use Rattle.calendar.specs.declared.moment.Moment.{Moment}
 use Rattle.calendar.specs.Calendar.{days_of_year, days_of_month, days_of_years, days_of_months, is_date, day_number, is_moment}
 use Rattle.calendar.proofs.Begun.{rise-to}
-use Rattle.calendar.proofs.Lengths.{years-suc, years-rise, years-all, months-suc, months-rise, months-all}
+use Rattle.calendar.proofs.Lengths.{Range, month-range, years-suc, years-rise, years-all, months-suc, months-rise, months-all}
 
 pub record Valid (d : Date) : Type 0 where
   pub year-from : 2000 ≤ d.year
@@ -22,26 +20,14 @@ pub record Valid (d : Date) : Type 0 where
 
 pub valid : (d : Date) → is_date d ≡ true → Valid d
 unfolding is_date
-valid d e0 =
-    let e1 = and_both (leb 2000 d.year) (leb d.year 9999 && (leb 1 d.month && (leb d.month 12 && (leb 1 d.day && leb d.day (days_of_month d.year d.month))))) e0 in
-    let e2 = and_both (leb d.year 9999) (leb 1 d.month && (leb d.month 12 && (leb 1 d.day && leb d.day (days_of_month d.year d.month)))) e1.1 in
-    let e3 = and_both (leb 1 d.month) (leb d.month 12 && (leb 1 d.day && leb d.day (days_of_month d.year d.month))) e2.1 in
-    let e4 = and_both (leb d.month 12) (leb 1 d.day && leb d.day (days_of_month d.year d.month)) e3.1 in
-    let e5 = and_both (leb 1 d.day) (leb d.day (days_of_month d.year d.month)) e4.1 in
-    record {
-      year-from = leb-true 2000 d.year e1.0;
-      year-to = leb-true d.year 9999 e2.0;
-      month-from = leb-true 1 d.month e3.0;
-      month-to = leb-true d.month 12 e4.0;
-      day-from = leb-true 1 d.day e5.0;
-      day-to = leb-true d.day (days_of_month d.year d.month) e5.1;
-    }
+valid d e = search (rules, tests)
+
+pub valid-year : (d : Date) → is_date d ≡ true → Range 2000 9999 d.year
+valid-year d e = record { from = (valid d e).year-from; to = (valid d e).year-to }
 
 pub is-valid : (d : Date) → Valid d → is_date d ≡ true
 unfolding is_date
-is-valid d v =
-    rw
-    (le-leb 2000 d.year v.year-from, le-leb d.year 9999 v.year-to, le-leb 1 d.month v.month-from, le-leb d.month 12 v.month-to, le-leb 1 d.day v.day-from, le-leb d.day (days_of_month d.year d.month) v.day-to)
+is-valid d v = search (rules, tests)
 
 -- the day of the year, and its number, lie before the next year
 module _ (d : Date) (v : Valid d) where
@@ -72,11 +58,11 @@ pub record ValidMoment (m : Moment) : Type 0 where
 
 pub valid-moment : (m : Moment) → is_moment m ≡ true → ValidMoment m
 unfolding is_moment
-valid-moment m e =
-    let e1 = and_both (is_date m.date) (ltb m.hour 24 && ltb m.minute 60) e in
-    let e2 = and_both (ltb m.hour 24) (ltb m.minute 60) e1.1 in
-    record { on = e1.0; hour-to = ltb-true m.hour 24 e2.0; minute-to = ltb-true m.minute 60 e2.1 }
+valid-moment m e = search (rules, tests)
 
 pub is-valid-moment : (m : Moment) → ValidMoment m → is_moment m ≡ true
 unfolding is_moment
-is-valid-moment m v = rw (v.on, lt-ltb m.hour 24 v.hour-to, lt-ltb m.minute 60 v.minute-to)
+is-valid-moment m v = search (rules, tests)
+
+-- what the numbers of dates and of moments ask
+pub ruleset dates = (valid, valid-year, before-end, month-range, valid-moment)

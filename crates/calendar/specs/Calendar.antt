@@ -1,12 +1,8 @@
 -- The Gregorian calendar, days and minutes counted from 2000-01-01T00:00Z as 0.
-use Rattle.std.specs.Prelude.{ℕ, zero, suc, ◌+◌, ◌*◌, ◌-◌, ◌/◌, ◌%◌, Bool, true, false, ◌&&◌, ◌||◌, leb, ltb, eqb}
+use Rattle.std.specs.Prelude.{ℕ, zero, suc, ◌+◌, ◌*◌, ◌-◌, ◌/◌, ◌%◌, Bool, true, false, ◌&&◌, ◌||◌, leb, ltb, eqb, Option, Some, None}
 use Rattle.numbers.specs.Choice.{pick}
 use Rattle.calendar.specs.declared.date.Date.{Date}
-use Rattle.calendar.specs.declared.date.Number.{Number}
-use Rattle.calendar.specs.declared.date.Number.TheVariants.{Is, No}
 use Rattle.calendar.specs.declared.moment.Moment.{Moment}
-use Rattle.calendar.specs.declared.moment.Shown.{Shown}
-use Rattle.calendar.specs.declared.moment.Shown.TheVariants.{At, Later}
 
 -- ---- a date and a moment, by their parts
 abbrev pub date : ℕ → ℕ → ℕ → Date
@@ -54,8 +50,8 @@ is_date d =
 unfoldable pub day_number : Date → ℕ
 day_number d = days_of_years (d.year - 2000) + days_of_months d.year (d.month - 1) + (d.day - 1)
 
-unfoldable pub day_of : Date → Number
-day_of d = pick (is_date d) (Is (day_number d)) No
+unfoldable pub day_of : Date → Option ℕ
+day_of d = pick (is_date d) (Some (day_number d)) None
 
 unfoldable pub is_moment : Moment → Bool
 is_moment m = is_date m.date && (ltb m.hour 24 && ltb m.minute 60)
@@ -64,8 +60,8 @@ is_moment m = is_date m.date && (ltb m.hour 24 && ltb m.minute 60)
 unfoldable pub minute_number : Moment → ℕ
 minute_number m = day_number m.date * 1440 + (m.hour * 60 + m.minute)
 
-unfoldable pub minute_of : Moment → Number
-minute_of m = pick (is_moment m) (Is (minute_number m)) No
+unfoldable pub minute_of : Moment → Option ℕ
+minute_of m = pick (is_moment m) (Some (minute_number m)) None
 
 -- ---- numbers to dates: what has begun by then
 -- the last of starts, up to a bound, that is no later than a number
@@ -96,5 +92,5 @@ abbrev pub last_minute : ℕ
 last_minute = 4207593599
 
 -- a minute as a moment; later ones stay numbers
-unfoldable pub shown_of : ℕ → Shown
-shown_of n = pick (leb n last_minute) (At (moment_of n)) Later
+unfoldable pub shown_of : ℕ → Option Moment
+shown_of n = pick (leb n last_minute) (Some (moment_of n)) None

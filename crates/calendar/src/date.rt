@@ -4,33 +4,27 @@ ghost use Rattle.calendar.specs.Calendar.{day_of, date_of};
 
 use crate::days::{date_at, is_date, number_of};
 
-#[derive(Clone, Copy)]
+#[derive(Clone, Copy, PartialEq, Eq, PartialOrd, Ord, Debug)]
 pub struct Date {
     pub year: u32,
     pub month: u32,
     pub day: u32,
 }
 
-// A day or a minute by its number, or none.
-#[derive(Clone, Copy)]
-pub enum Number {
-    Is(u32),
-    No,
-}
-
-// The number of a date from 2000-01-01 to 9999-12-31.
-pub fn day_of(d: Date) -> Number
+// The number of a date from 2000-01-01 to 9999-12-31; none of what is no such date.
+#[tactic(auto, unfolding(crate::specs::Calendar::day_of))]
+pub fn day_of(d: Date) -> Option<u32>
     ensures { result ≡ day_of d }
 {
     if !is_date(d) {
-        return Number::No;
+        return None;
     }
-    Number::Is(number_of(d))
+    Some(number_of(d))
 }
 
 // The date of a delivery day.
 pub fn date_of(n: u16) -> Date
     ensures { result ≡ date_of n }
 {
-    date_at(n as u32)
+    date_at(u32::from(n))
 }

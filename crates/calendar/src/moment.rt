@@ -2,7 +2,7 @@
 ghost use Rattle.std.specs.Prelude.{◌≡◌, ◌≤◌};
 ghost use Rattle.calendar.specs.Calendar.{is_moment, minute_of, moment_of, shown_of, last_minute};
 
-use crate::date::{Date, Number};
+use crate::date::Date;
 use crate::days::{date_at, is_date, number_of};
 
 // The minutes of a day.
@@ -11,42 +11,32 @@ const DAY: u32 = 1440;
 // 9999-12-31T23:59Z.
 const LAST: u32 = 4207593599;
 
-#[derive(Clone, Copy)]
+#[derive(Clone, Copy, PartialEq, Eq, PartialOrd, Ord, Debug)]
 pub struct Moment {
     pub date: Date,
     pub hour: u32,
     pub minute: u32,
 }
 
-// A minute as it is shown: as a moment, or, later than all of them, as a number.
-#[derive(Clone, Copy)]
-pub enum Shown {
-    At(Moment),
-    Later,
-}
-
+#[tactic(auto, unfolding(crate::specs::Calendar::is_moment))]
 fn is_moment(m: Moment) -> bool
     ensures { result ≡ is_moment m }
 {
-    if !is_date(m.date) {
-        return false;
-    }
-    if 24 <= m.hour {
-        return false;
-    }
-    m.minute < 60
+    is_date(m.date) && m.hour < 24 && m.minute < 60
 }
 
-// The number of a moment.
-pub fn minute_of(m: Moment) -> Number
+// The number of a moment; none of what is no moment from 2000-01-01T00:00Z to 9999-12-31T23:59Z.
+#[tactic(auto, using(crate::proofs::Valid::dates), unfolding(crate::specs::Calendar::minute_of, crate::specs::Calendar::minute_number))]
+pub fn minute_of(m: Moment) -> Option<u32>
     ensures { result ≡ minute_of m }
 {
     if !is_moment(m) {
-        return Number::No;
+        return None;
     }
-    Number::Is(number_of(m.date) * DAY + (m.hour * 60 + m.minute))
+    Some(number_of(m.date) * DAY + (m.hour * 60 + m.minute))
 }
 
+#[tactic(auto, unfolding(crate::specs::Calendar::moment_of))]
 fn moment_at(n: u32) -> Moment
     requires { n ≤ last_minute }
     ensures { result ≡ moment_of n }
@@ -58,12 +48,13 @@ fn moment_at(n: u32) -> Moment
     }
 }
 
-// A minute as a moment, up to the last one.
-pub fn moment_of(n: u32) -> Shown
+// A minute as a moment, up to the last one; none of what is later.
+#[tactic(auto, unfolding(crate::specs::Calendar::shown_of))]
+pub fn moment_of(n: u32) -> Option<Moment>
     ensures { result ≡ shown_of n }
 {
     if LAST < n {
-        return Shown::Later;
+        return None;
     }
-    Shown::At(moment_at(n))
+    Some(moment_at(n))
 }

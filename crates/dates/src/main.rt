@@ -12,55 +12,39 @@ const LINE_FEED: u8 = 10;
 // No line of the list is as long; of one that is longer, this much is taken.
 const LONGEST: usize = 255;
 
-fn blank() -> [u8; LONGEST] {
-    [0; LONGEST]
-}
-
 // Reads up to the line feed, and gives how many bytes there are with it. Nothing is behind an input that has ended or cannot be read.
 fn read_line<R: io::Read>(reader: &mut R, line: &mut [u8]) -> usize
     ensures { result ≤ length line.new }
 {
-    let mut length = 0;
-    while length < line.len() {
-        let Ok(got) = reader.read(&mut line[length..length + 1]) else {
-            return length;
+    for at in 0..line.len() {
+        let Ok(1..) = reader.read(&mut line[at..at + 1]) else {
+            return at;
         };
-        if got == 0 {
-            return length;
+        if line[at] == LINE_FEED {
+            return at + 1;
         }
-        if line[length] == LINE_FEED {
-            return length + 1;
-        }
-        length += 1;
     }
-    length
+    line.len()
 }
 
 // The length of a line without its line feed.
 fn bare_length(line: &[u8]) -> usize
     ensures { result ≤ length line.now }
 {
-    let length = line.len();
-    if length == 0 {
-        return 0;
-    }
-    if line[length - 1] == LINE_FEED {
-        return length - 1;
-    }
-    length
+    line.len() - usize::from(line.ends_with(&[LINE_FEED]))
 }
 
 // A line that has no line feed has nothing behind what is shown. Each of the two is written whatever became of the other.
 fn write_shown<W: io::Write>(writer: &mut W, line: &[u8], room: &mut [u8]) {
-    let bare = bare_length(line);
-    let length = show(&line[..bare], room);
+    let (bare, feed) = line.split_at(bare_length(line));
+    let length = show(bare, room);
     let _ = writer.write_all(&room[..length]);
-    let _ = writer.write_all(&line[bare..]);
+    let _ = writer.write_all(feed);
 }
 
 fn main(rt: HostRuntime) {
-    let mut line = blank();
-    let mut room = blank();
+    let mut line = [0; LONGEST];
+    let mut room = [0; LONGEST];
     let length = read_line(&mut rt.stdin(), &mut line);
     write_shown(&mut rt.stdout(), &line[..length], &mut room);
 }

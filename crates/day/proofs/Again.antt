@@ -1,4 +1,5 @@
 -- What was taken, written again from the values that the layouts read, gives the bytes used: its head and fields are those that the readers' round trips start from.
+use Rattle.std.specs.Prelude.{Result}
 use Prim.Native.Nat.{ℕ, ◌+◌, ◌≤◌}
 use mathlib.Core.Path.{◌≡◌, sym, ap, ◌∙◌}
 use mathlib.Core.Bool.{true, not}
@@ -9,8 +10,7 @@ use lib.ListN.{length, take}
 use Rattle.numbers.specs.Bytes.{Bytes, byte_at}
 use Rattle.numbers.proofs.Choices.{and_both}
 use Rattle.terms.specs.Reply.{is, next}
-use Rattle.terms.specs.Refusals.{answer}
-use Rattle.terms.specs.declared.refusal.Answer.{Answer}
+use Rattle.terms.specs.Refusals.{reply}
 use Rattle.terms.proofs.Replies.{need-is, next-is}
 use Rattle.records.specs.Layouts.{day_at, day_length_of, group_at, end_length, end_at}
 use Rattle.records.specs.Reading.{permitted, day_fields_of, day_of, group_of, end_fields_of, end_of, unit_place}
@@ -27,13 +27,15 @@ use Rattle.walk.specs.Table.{role_of}
 use Rattle.walk.proofs.Coming.{length_in, block-open, head_as, own-head}
 use Rattle.decode.specs.Block.{block_count}
 use Rattle.day.specs.declared.value.Day.{Day}
-use Rattle.day.specs.declared.offer.Step.{Step}
-use Rattle.day.specs.declared.offer.Offered.TheVariants as O
+use Rattle.day.specs.Outcome.{Step}
+use Rattle.day.specs.Outcome as O
 use Rattle.day.specs.Days.{opened, closed, could_be_open, possible}
 use Rattle.day.specs.Offers.{head_for, day_taken, end_taken, taken, offer_of, Offers}
 use Rattle.day.proofs.ByKind.{head_read, head-came, offer-day, offer-end}
 use Rattle.day.proofs.Read.{read}
-use Rattle.day.proofs.Outcomes.{taken-block, reply}
+use Rattle.day.proofs.Outcomes.{taken-block}
+use Rattle.day.proofs.Outcomes as outcomes
+use Rattle.terms.specs.declared.refusal.Refusal.{Refusal}
 
 module _ (day : Day) (s : List ℕ) (head : Head) (e : head_for day s ≡ is head) where
   -- the head that came is its record's own
@@ -49,20 +51,20 @@ module _ (day : Day) (s : List ℕ) (head : Head) (e : head_for day s ≡ is hea
 module _ (day : Day) (s entry : List ℕ) {step : Step} {exit : List ℕ} (o : Offers day s entry (O.Taken step) exit) where
   came : (head : Head) × ((head_for day s ≡ is head) × (taken day s (length entry) head.role head.end ≡ is step))
   unfolding offer_of
-  came = next-is _ _ (reply day s entry o)
+  came = next-is _ _ (outcomes.reply day s entry o)
 
   role-is : (role : Role) → role_of (byte_at s 0) ≡ role → came.0.role ≡ role
   role-is role k = sym (head-came day s came.0 came.1.0).first ∙ k
 
-  module _ (small : Bytes s) (room : List ℕ) {left : List ℕ} {r : Answer} (fits : step.used ≤ length room) where
+  module _ (small : Bytes s) (room : List ℕ) {left : List ℕ} {r : Result ℕ Refusal} (fits : step.used ≤ length room) where
     -- A day record that was taken is what the writer makes of its values.
     pub day-same : role_of (byte_at s 0) ≡ Opens → DayWritten (day_at s 0) room r left
-        → (answer r ≡ is step.used) × (take step.used left ≡ take step.used s)
+        → (reply r ≡ is step.used) × (take step.used left ≡ take step.used s)
     unfolding day_taken day_of next
     day-same k w =
         let q = role-is Opens k in
         let h = head-came day s came.0 came.1.0 in
-        let a = next-is (day_fields_of s) _ (sym (offer-day day s came.0 came.1.0 q (length entry)) ∙ reply day s entry o) in
+        let a = next-is (day_fields_of s) _ (sym (offer-day day s came.0 came.1.0 q (length entry)) ∙ outcomes.reply day s entry o) in
         let v : step ≡ record { used = came.0.end; written = 0; day = opened a.0 } = cc a.1.1 in
         let d = (day-passed s a.1.0).value in
         let u : step.used ≡ day_length_of (day_at s 0) = ap (λ (x : Step). x.used) v ∙ h.end ∙ ap (λ (x : Role). 0 + length_in x s 0) q in
@@ -71,12 +73,12 @@ module _ (day : Day) (s entry : List ℕ) {step : Step} {exit : List ℕ} (o : O
 
     -- An end record that was taken is what the writer makes of its count.
     pub end_same : role_of (byte_at s 0) ≡ Closes → EndWritten (end_at s 0) room r left
-        → (answer r ≡ is step.used) × (take step.used left ≡ take step.used s)
+        → (reply r ≡ is step.used) × (take step.used left ≡ take step.used s)
     unfolding end_taken end_of end_fields_of next
     end_same k w =
         let q = role-is Closes k in
         let h = head-came day s came.0 came.1.0 in
-        let a = next-is (end_fields_of s day.groups) _ (sym (offer-end day s came.0 came.1.0 q (length entry)) ∙ reply day s entry o) in
+        let a = next-is (end_fields_of s day.groups) _ (sym (offer-end day s came.0 came.1.0 q (length entry)) ∙ outcomes.reply day s entry o) in
         let v : step ≡ record { used = came.0.end; written = 0; day = closed day } = cc a.1.1 in
         let x : a.0 ≡ end_at s 0 = cc (need-is _ _ _ _ a.1.0).1 in
         let u : step.used ≡ end_length = ap (λ (y : Step). y.used) v ∙ h.end ∙ ap (λ (y : Role). 0 + length_in y s 0) q in
@@ -86,13 +88,13 @@ module _ (day : Day) (s entry : List ℕ) {step : Step} {exit : List ℕ} (o : O
     -- A block that was taken is what the writer makes of its values as columns.
     pub block_same : role_of (byte_at s 0) ≡ Block
         → BlockWritten (group_at s 0) (columns_in s (block_count s)) room r left
-        → (answer r ≡ is step.used) × (take step.used left ≡ take step.used s)
+        → (reply r ≡ is step.used) × (take step.used left ≡ take step.used s)
     unfolding group_of next
     block_same k w =
         let q = role-is Block k in
         let head = came.0 in
         let c = came.1.0 in
-        let t = taken-block day s (length entry) (reply day s entry o) k in
+        let t = taken-block day s (length entry) (outcomes.reply day s entry o) k in
         let b = read day s t.long t.fields in
         let u : step.used ≡ unit_place s (block_count s) = ap (λ (x : Step). x.used) t.value in
         let e : group_of s day.«record» day.last ≡ is (group_at s 0) = rw (own day s head c Block q) b.group in

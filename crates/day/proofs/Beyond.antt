@@ -30,7 +30,7 @@ use Rattle.walk.specs.Table.{role_of, is_block, head_at, head_in}
 use Rattle.walk.proofs.Coming.{is_block-only, length_in}
 use Rattle.day.specs.declared.value.Day.{Day}
 use Rattle.blocks.specs.declared.check.Block.{Block}
-use Rattle.day.specs.declared.offer.Step.{Step}
+use Rattle.day.specs.Outcome.{Step}
 use Rattle.day.specs.Days.{opened, counted, closed}
 use Rattle.blocks.proofs.ByUnits.{made, block-alike}
 use Rattle.day.specs.Checking.{block_fields_of}

@@ -13,8 +13,8 @@ use Rattle.walk.specs.declared.table.Head.{Head}
 use Rattle.walk.specs.Table.{role_of, is_block, head_in, block_head_in}
 use Rattle.walk.proofs.Coming.{block-came}
 use Rattle.day.specs.declared.value.Day.{Day}
-use Rattle.day.specs.declared.offer.Step.{Step}
-use Rattle.day.specs.declared.offer.Offered.{Offered}
+use Rattle.day.specs.Outcome.{Step}
+use Rattle.day.specs.Outcome.{Offered}
 use Rattle.day.specs.Days.{possible}
 use Rattle.day.specs.Checking.{block_head_for}
 use Rattle.day.specs.Offers.{head_for, block_taken, offer_of, block_offer_of, Offers, OffersBlock}

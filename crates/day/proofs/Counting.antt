@@ -12,7 +12,7 @@ use Rattle.blocks.specs.declared.check.Block.{Block}
 use Rattle.blocks.specs.Checking.{block_units_of}
 use Rattle.blocks.specs.Inner.{units_taken}
 use Rattle.day.specs.declared.value.Day.{Day}
-use Rattle.day.specs.declared.offer.Step.{Step}
+use Rattle.day.specs.Outcome.{Step}
 use Rattle.day.specs.Days.{counted}
 use Rattle.day.specs.Offers.{block_taken}
 use Rattle.day.specs.Checking.{block_fields_of}

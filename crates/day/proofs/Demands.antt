@@ -26,9 +26,9 @@ use Rattle.writers.specs.Results.{result_length}
 use Rattle.walk.specs.declared.table.Role.TheVariants.{Block}
 use Rattle.walk.specs.Table.{role_of}
 use Rattle.day.specs.declared.value.Day.{Day}
-use Rattle.day.specs.declared.offer.Step.{Step}
-use Rattle.day.specs.declared.offer.Offered.{Offered}
-use Rattle.day.specs.declared.offer.Offered.TheVariants as O
+use Rattle.day.specs.Outcome.{Step}
+use Rattle.day.specs.Outcome.{Offered}
+use Rattle.day.specs.Outcome as O
 use Rattle.day.specs.Days.{counted}
 use Rattle.decode.specs.Block.{block_count}
 use Rattle.blocks.specs.Blocks.{group_told, block_key, block_group, block_result, unit_result}

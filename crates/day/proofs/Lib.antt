@@ -1,5 +1,4 @@
 -- Laws of the day.
-pub mod Lengths
 pub mod Read
 pub mod Counting
 pub mod Taking

@@ -1,3 +1,5 @@
+use Rattle.std.specs.Prelude.{Result}
+use Rattle.terms.specs.Refusals.{reply}
 -- Only 13 of a block and 14 of an end record depend on other blocks: every other test is of the bytes and the day record, since days that runs of calls give are possible.
 use Prim.Native.Nat.{ℕ}
 use mathlib.Core.Path.{◌≡◌, refl, sym, ap, ◌∙◌}
@@ -18,20 +20,20 @@ use Rattle.walk.specs.declared.table.Role.TheVariants as R
 use Rattle.walk.specs.declared.table.Head.{Head}
 use Rattle.walk.specs.Table.{role_of, head_in, block_head_in}
 use Rattle.blocks.specs.declared.check.Block.{Block}
-use Rattle.blocks.specs.declared.check.BlockAnswer.{BlockAnswer}
 use Rattle.blocks.specs.Blocks.{block_key}
-use Rattle.blocks.specs.Checking.{block_reply}
 use Rattle.day.specs.declared.value.Day.{Day}
-use Rattle.day.specs.declared.offer.Step.{Step}
-use Rattle.day.specs.declared.offer.Offered.{Offered}
+use Rattle.day.specs.declared.offer.Lengths.{Lengths}
+use Rattle.day.specs.Outcome.{Step}
+use Rattle.day.specs.Outcome.{Offered}
 use Rattle.day.specs.Days.{counted, closed, possible}
 use Rattle.day.specs.Checking.{block_fields_of, block_head_for, check_of}
 use Rattle.day.specs.Offers.{head_for, block_taken, end_taken, taken, offer_of, written_of, offer_reply, room_after, Offers}
-use Rattle.day.specs.Others.{by, Agrees, this, that, agreed, Lengths, lengths_of}
+use Rattle.day.specs.Others.{by, Agrees, this, that, agreed, lengths_of}
 use Rattle.day.specs.Reached.{Reached}
 use Rattle.day.proofs.ByKind.{head-came}
 use Rattle.day.proofs.BlockAlone.{head-possible}
 use Rattle.day.proofs.Reaching.{reached-possible}
+use Rattle.terms.specs.declared.refusal.Refusal.{Refusal}
 
 -- two readings that differ in the test of 13 alone, behind 4 and 5
 keyed : {G B : Type 0} (q c f g : Bool) (rest : Reply G) (after : G → Reply B)
@@ -145,7 +147,7 @@ module _ (a b : Day) (d : a.«record» ≡ b.«record») (s : List ℕ) where
         go (agreed e) = agreed (e, x.room ∙ same-room (offer_of a s (length entry)) (offer_of b s (length entry)) (written_of s) entry e ∙ sym y.room)
 
     -- The same of a block that is checked.
-    pub check-others : (r q : BlockAnswer) → block_reply r ≡ check_of a s → block_reply q ≡ check_of b s → Agrees R.Block (block_reply r) (block_reply q) (block_reply r ≡ block_reply q)
+    pub check-others : (r q : Result Block Refusal) → reply r ≡ check_of a s → reply q ≡ check_of b s → Agrees R.Block (reply r) (reply q) (reply r ≡ reply q)
     unfolding check_of next
     check-others r q x y = rw (x, y, block-heads) (go (block_head_for b s))
       where

@@ -21,8 +21,8 @@ use Rattle.walk.specs.Table.{role_of, is_block}
 use Rattle.walk.proofs.Coming.{is_block-only}
 use Rattle.day.specs.declared.value.Day.{Day}
 use Rattle.blocks.specs.declared.check.Block as checked
-use Rattle.day.specs.declared.offer.Step.{Step}
-use Rattle.day.specs.declared.offer.Offered.TheVariants as O
+use Rattle.day.specs.Outcome.{Step}
+use Rattle.day.specs.Outcome as O
 use Rattle.day.specs.Days.{opened, counted, closed}
 use Rattle.blocks.specs.Checking.{block_of}
 use Rattle.day.specs.Checking.{block_fields_of}

@@ -1,4 +1,5 @@
 -- Every day that a run of calls gives is possible: the keys of its blocks rise strictly, so there are no more groups than keys up to the last one.
+use Rattle.std.specs.Prelude.{Option, Some, None}
 use Prim.Native.Nat.{ℕ, ◌+◌, ◌*◌, ◌≤◌, ◌<◌}
 use mathlib.Core.Path.{◌≡◌, refl, sym, ap, ◌∙◌}
 use mathlib.Core.Bool.{Bool, true, false}
@@ -14,8 +15,6 @@ use Rattle.terms.specs.Reply.{Reply, is}
 use Rattle.terms.specs.declared.refusal.Refusal.{Refusal}
 use Rattle.terms.proofs.Replies.{next-is}
 use Rattle.records.specs.declared.key.Key.{Key}
-use Rattle.records.specs.declared.key.Last.{Last}
-use Rattle.records.specs.declared.key.Last.TheVariants as L
 use Rattle.records.specs.Layouts.{group_at}
 use Rattle.records.specs.Reading.{permitted, below, follows, day_fields_of, end_fields_of}
 use Rattle.records.proofs.Read.{day-passed, quarters-most}
@@ -26,9 +25,9 @@ use Rattle.walk.specs.declared.table.Role.TheVariants.{Opens, Block, Closes}
 use Rattle.walk.specs.Table.{role_of, row_of}
 use Rattle.blocks.specs.Blocks.{block_key}
 use Rattle.day.specs.declared.value.Day.{Day}
-use Rattle.day.specs.declared.offer.Step.{Step}
-use Rattle.day.specs.declared.offer.Offered.{Offered}
-use Rattle.day.specs.declared.offer.Offered.TheVariants as O
+use Rattle.day.specs.Outcome.{Step}
+use Rattle.day.specs.Outcome.{Offered}
+use Rattle.day.specs.Outcome as O
 use Rattle.day.specs.Days.{opened, closed, possible_in, possible}
 use Rattle.day.specs.Offers.{head_for, day_taken, end_taken, taken, offer_of, day_after, day_back, Offering, Offers, OffersBlock}
 use Rattle.day.specs.Reached.{Reached, begun, offered, alone}
@@ -45,15 +44,15 @@ record Held (k : Key) : Type 0 where
   pub quarter : k.quarter < 100
 
 -- how many keys there are up to the last one
-rank : Last → ℕ
-rank L.Nothing = 0
-rank (L.Block k) = k.brp * 25600 + k.zone * 100 + k.quarter + 1
+rank : Option Key → ℕ
+rank None = 0
+rank (Some k) = k.brp * 25600 + k.zone * 100 + k.quarter + 1
 
-HeldLast : Last → Type 0
-HeldLast L.Nothing = Unit
-HeldLast (L.Block k) = Held k
+HeldLast : Option Key → Type 0
+HeldLast None = Unit
+HeldLast (Some k) = Held k
 
-below_up : (a b : Key) → Held a → Held b → below a b ≡ true → rank (L.Block a) < rank (L.Block b)
+below_up : (a b : Key) → Held a → Held b → below a b ≡ true → rank (Some a) < rank (Some b)
 unfolding rank
 below_up a b h k e = go (eqb a.brp b.brp) (eqb a.zone b.zone) refl refl e
   where
@@ -64,16 +63,16 @@ below_up a b h k e = go (eqb a.brp b.brp) (eqb a.zone b.zone) refl refl e
     go true false p q e = omega (arith, eqb-true a.brp b.brp p, ltb-true a.zone b.zone e, h.quarter, k.quarter)
     go false y p q e = omega (arith, ltb-true a.brp b.brp e, h.zone, h.quarter)
 
-follows-up : (last : Last) (b : Key) → HeldLast last → Held b → follows last b ≡ true → rank last < rank (L.Block b)
+follows-up : (last : Option Key) (b : Key) → HeldLast last → Held b → follows last b ≡ true → rank last < rank (Some b)
 unfolding rank HeldLast
-follows-up L.Nothing b h k e = omega arith
-follows-up (L.Block a) b h k e = below_up a b h k e
+follows-up None b h k e = omega arith
+follows-up (Some a) b h k e = below_up a b h k e
 
 -- there are 65,536 · 256 · 100 keys
-rank_most : (last : Last) → HeldLast last → rank last ≤ 1677721600
+rank_most : (last : Option Key) → HeldLast last → rank last ≤ 1677721600
 unfolding rank HeldLast
-rank_most L.Nothing h = omega arith
-rank_most (L.Block k) h = omega (arith, h.brp, h.zone, h.quarter)
+rank_most None h = omega arith
+rank_most (Some k) h = omega (arith, h.brp, h.zone, h.quarter)
 
 -- ---- days
 -- what every open day that was reached has

@@ -15,8 +15,8 @@ use Rattle.records.specs.Layouts.{group_result_bytes}
 use Rattle.writers.specs.Results.{Results, result_length, result_bytes, unit_results_bytes}
 use Rattle.writers.proofs.Lengths.{length-group-result, length-results}
 use Rattle.day.specs.declared.value.Day.{Day}
-use Rattle.day.specs.declared.offer.Step.{Step}
-use Rattle.day.specs.declared.offer.Offered.TheVariants as O
+use Rattle.day.specs.Outcome.{Step}
+use Rattle.day.specs.Outcome as O
 use Rattle.decode.specs.Block.{block_count}
 use Rattle.blocks.specs.Blocks.{group_result, result_in, block_result}
 use Rattle.day.specs.Days.{opened, closed}

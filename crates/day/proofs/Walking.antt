@@ -6,6 +6,7 @@ use native.Mathlib.Omega.{arith}
 use native.Mathlib.Nat.{add-zero}
 use lib.ListN.{length, length-append, get_or-append}
 use lib.Seq.{get_or-append-add}
+use Rattle.std.specs.Prelude.{None}
 use Rattle.numbers.specs.Bytes.{byte_at}
 use Rattle.terms.specs.Reply.{is, need, next}
 use Rattle.terms.proofs.Replies.{next-is}
@@ -19,7 +20,7 @@ use Rattle.walk.specs.declared.table.Role.{Role}
 use Rattle.walk.specs.declared.table.Role.TheVariants.{Opens, Block, Closes}
 use Rattle.walk.specs.declared.table.Head.{Head}
 use Rattle.walk.specs.Table.{role_of, row_of, state_after, head_in, Coming, the_day, a_group, the_end}
-use Rattle.walk.specs.Walk.{heads_of, block_end_of, walk_from, done}
+use Rattle.walk.specs.Walk.{heads_of, block_end_of, walk_from}
 use Rattle.walk.specs.Extents.{from, headed, Blocks, block, ending, DayOf, opening}
 use Rattle.walk.proofs.Coming.{came, head-moved}
 use Rattle.walk.proofs.Visits.{walk-visits}
@@ -27,7 +28,7 @@ use Rattle.day.specs.declared.value.Day.{Day}
 use Rattle.blocks.specs.declared.check.Block as checked
 use Rattle.day.specs.Days.{fresh, opened, closed}
 use Rattle.day.specs.Checking.{block_fields_of}
-use Rattle.day.specs.declared.offer.Step.{Step}
+use Rattle.day.specs.Outcome.{Step}
 use Rattle.day.specs.Offers.{head_for, day_taken, end_taken, offer_of}
 use Rattle.day.specs.WholeDays.{Part, part, joined, extents_from, Run, none, more, AcceptedDay}
 use Rattle.day.proofs.ByKind.{head_read, head-came, offer-day, offer-end}
@@ -182,5 +183,5 @@ day-walked (more {s = s} {entry = entry} {step = step} {rest = rest} o u r) q =
 
 -- The walk over an accepted day visits each of its parts, and nothing else.
 pub accepted-walked : {day end : List ℕ} {blocks : List Part} → AcceptedDay day blocks end → let parts = part day [] ∷ blocks ++ (part end [] ∷ []) in
-    walk_from (joined parts) Fresh 0 (length (extents_from 0 parts)) ≡ record { extents = extents_from 0 parts; reply = is done }
+    walk_from (joined parts) Fresh 0 (length (extents_from 0 parts)) ≡ record { extents = extents_from 0 parts; reply = is None }
 accepted-walked a = walk-visits _ (day-walked a.run a.closed)

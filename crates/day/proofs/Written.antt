@@ -1,4 +1,5 @@
 -- What the checks pass is taken, and so is what our writers made, by a day that takes it next: its head comes by the table, and its fields are read.
+use Rattle.std.specs.Prelude.{Result}
 use Prim.Native.Nat.{ℕ, ◌≤◌}
 use mathlib.Core.Path.{◌≡◌, refl, ◌∙◌}
 use mathlib.Core.Bool.{true}
@@ -7,8 +8,7 @@ use native.Mathlib.Omega.{arith}
 use borrow.Author.Tests.{lt-ltb, le-leb}
 use lib.ListN.{length}
 use Rattle.terms.specs.Reply.{is, need, next}
-use Rattle.terms.specs.Refusals.{answer}
-use Rattle.terms.specs.declared.refusal.Answer.{Answer}
+use Rattle.terms.specs.Refusals.{reply}
 use Rattle.terms.proofs.Replies.{next-is}
 use Rattle.records.specs.declared.day.DayRecord.{DayRecord}
 use Rattle.records.specs.declared.group.GroupRecord.{GroupRecord}
@@ -36,6 +36,7 @@ use Rattle.day.specs.Checking.{block_fields_of, block_head_for, check_of}
 use Rattle.day.specs.Offers.{head_for, day_taken, block_taken, end_taken, offer_of}
 use Rattle.day.proofs.ByKind.{offer-day, offer-block, offer-end}
 use Rattle.day.proofs.BlockAlone.{block-for}
+use Rattle.terms.specs.declared.refusal.Refusal.{Refusal}
 
 module _ (day : Day) (s : List ℕ) (possibly : possible day ≡ true) where
   -- the head of a record that may come
@@ -78,7 +79,7 @@ checked-taken day s {block} room e h =
     let b = block-for day s p.1.0 in
     offer-block day s p.0 b.came b.role room ∙ simp (p.1.1, le-leb block.written room h)
 
-module _ {entry exit : List ℕ} {r : Answer} {n : ℕ} (done : answer r ≡ is n) where
+module _ {entry exit : List ℕ} {r : Result ℕ Refusal} {n : ℕ} (done : reply r ≡ is n) where
   -- A day record that our writer made opens any fresh day.
   pub day-written : (d : DayRecord) → DayWritten d entry r exit → (day : Day) (room : ℕ) → day.state ≡ Fresh
       → offer_of day exit room ≡ is (record { used = day_length_of d; written = 0; day = opened d })

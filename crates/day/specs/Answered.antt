@@ -4,7 +4,7 @@ use Rattle.terms.specs.Reply.{Reply, is}
 use Rattle.terms.specs.Refusals.{refusal}
 use Rattle.terms.specs.declared.refusal.Refusal.{Refusal}
 use Rattle.day.specs.declared.value.Day.{Day}
-use Rattle.day.specs.declared.offer.Offered.{Offered}
+use Rattle.day.specs.Outcome.{Offered}
 use Rattle.day.specs.Offers.{Offers}
 
 -- a reply that an answer gives: a value, or a refusal with a reason of its own

@@ -1,8 +1,7 @@
 -- "Ways in" and "House records": a day that goes in and comes back as a value, and which records may come.
-use Rattle.std.specs.Prelude.{◌+◌, Bool, true, not, ◌&&◌, eqb}
+use Rattle.std.specs.Prelude.{◌+◌, Bool, true, not, ◌&&◌, eqb, Some, None}
 use Rattle.records.specs.declared.day.DayRecord.{DayRecord}
 use Rattle.records.specs.declared.key.Key.{Key}
-use Rattle.records.specs.declared.key.Last.TheVariants.{Nothing, Block}
 use Rattle.records.specs.Layouts.{day_with}
 use Rattle.records.specs.Reading.{permitted}
 use Rattle.walk.specs.declared.table.State.{State}
@@ -16,15 +15,15 @@ fresh =
       state = Fresh;
       «record» = day_with 0 0 0 0 0;
       groups = 0;
-      last = Nothing;
+      last = None;
     }
 
 -- a day record opens a day, a block is one group more and the last one accepted, an end record closes the day
 abbrev pub opened : DayRecord → Day
-opened d = record { state = Open; «record» = d; groups = 0; last = Nothing }
+opened d = record { state = Open; «record» = d; groups = 0; last = None }
 
 abbrev pub counted : Day → Key → Day
-counted day key = record { state = day.state; «record» = day.«record»; groups = day.groups + 1; last = Block key }
+counted day key = record { state = day.state; «record» = day.«record»; groups = day.groups + 1; last = Some key }
 
 abbrev pub closed : Day → Day
 closed day = record { state = Closed; «record» = day.«record»; groups = day.groups; last = day.last }

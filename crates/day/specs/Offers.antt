@@ -10,9 +10,9 @@ use Rattle.walk.specs.declared.table.Role.TheVariants.{Opens, Block, Closes}
 use Rattle.walk.specs.declared.table.Head.{Head}
 use Rattle.walk.specs.Table.{role_of, is_block, head_in}
 use Rattle.day.specs.declared.value.Day.{Day}
-use Rattle.day.specs.declared.offer.Step.{Step}
-use Rattle.day.specs.declared.offer.Offered.{Offered}
-use Rattle.day.specs.declared.offer.Offered.TheVariants as O
+use Rattle.day.specs.Outcome.{Step}
+use Rattle.day.specs.Outcome.{Offered}
+use Rattle.day.specs.Outcome as O
 use Rattle.day.specs.Days.{opened, counted, closed, possible}
 use Rattle.day.specs.Checking.{block_fields_of, block_head_for}
 use Rattle.blocks.specs.Blocks.{block_result}

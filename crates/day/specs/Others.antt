@@ -4,7 +4,8 @@ use mathlib.Core.List.{List, [], ◌∷◌, Memᴰ}
 use Rattle.terms.specs.Reply.{Reply, is, refused}
 use Rattle.walk.specs.declared.table.Role.{Role}
 use Rattle.walk.specs.declared.table.Role.TheVariants.{Opens, Block, Closes}
-use Rattle.day.specs.declared.offer.Step.{Step}
+use Rattle.day.specs.declared.offer.Lengths.{Lengths}
+use Rattle.day.specs.Outcome.{Step}
 
 -- the refusals of each record that may depend on other blocks, and no others
 abbrev pub others_of : Role → List ℕ
@@ -23,10 +24,6 @@ pub data Agrees {A : Type 0} (role : Role) (x y : Reply A) (same : Type 0) : Typ
   agreed : same → Agrees role x y same
 
 -- what a reply tells beside the day: the refusal, or the bytes used and written
-pub record Lengths : Type 0 where
-  pub used : ℕ
-  pub written : ℕ
-
 abbrev pub lengths_of : Reply Step → Reply Lengths
 lengths_of (is step) = is (record { used = step.used; written = step.written })
 lengths_of (refused number place) = refused number place

@@ -2,7 +2,7 @@
 use Rattle.std.specs.Prelude.{ℕ, List}
 use Rattle.numbers.specs.Bytes.{Bytes}
 use Rattle.day.specs.declared.value.Day.{Day}
-use Rattle.day.specs.declared.offer.Offered.{Offered}
+use Rattle.day.specs.Outcome.{Offered}
 use Rattle.day.specs.Days.{fresh}
 use Rattle.day.specs.Offers.{day_back, Offers, OffersBlock}
 

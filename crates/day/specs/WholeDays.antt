@@ -6,8 +6,8 @@ use Rattle.walk.specs.declared.step.Extent.{Extent}
 use Rattle.walk.specs.Table.{role_of, state_after}
 use Rattle.walk.specs.Extents.{from}
 use Rattle.day.specs.declared.value.Day.{Day}
-use Rattle.day.specs.declared.offer.Step.{Step}
-use Rattle.day.specs.declared.offer.Offered.TheVariants.{Taken}
+use Rattle.day.specs.Outcome.{Step}
+use Rattle.day.specs.Outcome.{Taken}
 use Rattle.day.specs.Days.{fresh}
 use Rattle.day.specs.Offers.{Offers}
 

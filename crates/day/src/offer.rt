@@ -1,135 +1,92 @@
 // A record or block is offered to a day: refused, or taken, with what it leaves.
 ghost use Rattle.std.specs.Prelude.{◌≡◌, ◌≤◌, ◌<◌, length};
+ghost use Rattle.terms.specs.Refusals.{reply};
 ghost use Rattle.records.specs.Layouts.{group_length, end_length};
 ghost use Rattle.records.specs.Reading.{day_end};
-ghost use Rattle.walk.specs.Answers.{head_reply};
 ghost use Rattle.blocks.specs.Blocks.{block_result};
-ghost use Rattle.day.specs.Offers.{head_for, day_taken, block_taken, end_taken, Gave, Offering, Offers, OffersBlock};
+ghost use Rattle.day.specs.Outcome.{outcome};
+ghost use Rattle.day.specs.Offers.{day_taken, block_taken, end_taken, Gave, Offering, Offers, OffersBlock};
 
-use crate::head::block_head_for;
+use crate::head::{block_head_for, head_for};
 use crate::value::Day;
-use blocks::check::BlockAnswer;
 use blocks::result::take_units;
-use records::day::{DayAnswer, day_fields};
-use records::end::{EndAnswer, end_fields};
-use records::group::{GroupAnswer, group_fields};
-use terms::refusal::{Refusal, Why};
-use walk::table::{HeadAnswer, Role, head_in};
+use records::day::day_fields;
+use records::end::end_fields;
+use records::group::group_fields;
+use terms::refusal::Refusal;
+use walk::table::Role;
 
-// What an accepted offer leaves: how many bytes were used, how many written, and the new day.
-#[derive(Clone, Copy)]
-pub struct Step {
+// What an accepted offer leaves beside the day: how many bytes were used, and how many written.
+#[derive(Clone, Copy, PartialEq, Eq, Debug)]
+pub struct Lengths {
     pub used: usize,
     pub written: usize,
-    pub day: Day,
 }
 
-#[derive(Clone, Copy)]
-pub enum Offered {
-    Taken(Step),
-    // The day comes back as it was.
-    Refused(Refusal, Day),
-}
-
-// The head of what is offered, by the table.
-fn day_head(day: Day, s: &[u8]) -> HeadAnswer
-    ensures { head_reply result ≡ head_for day s.now }
-{
-    let n = s.len();
-    if n == 0 {
-        return HeadAnswer::Refused(Refusal {
-            why: Why::CutShort,
-            place: n,
-        });
+impl Day {
+    // A day record that is there whole and ends at a place opens the day.
+    #[tactic(auto, unfolding(crate::specs::Offers::day_taken, crate::specs::Offers::day_after, terms::specs::Reply::next))]
+    fn open(&mut self, s: &[u8], end: usize) -> Result<Lengths, Refusal>
+        requires { day_end s.now ≤ length s.now }
+        ensures { Gave (day_taken s.now end) self.old (outcome result self.new) }
+    {
+        let record = day_fields(s)?;
+        *self = Day::opened(record);
+        Ok(Lengths {
+            used: end,
+            written: 0,
+        })
     }
-    if !day.is_possible() {
-        return HeadAnswer::Refused(Refusal {
-            why: Why::Kind,
-            place: 0,
-        });
+
+    // A block whose head came: its group record, then its units and the room; its result is written, and the block is counted.
+    #[tactic(auto, unfolding(crate::specs::Offers::block_taken, crate::specs::Checking::block_fields_of, crate::specs::Offers::day_after, crate::specs::Offers::room_after, terms::specs::Reply::next))]
+    fn take_block(&mut self, s: &[u8], room: &mut [u8]) -> Result<Lengths, Refusal>
+        requires { (group_length ≤ length s.now) × (self.old.groups < 4294967295) }
+        ensures { Offering (block_taken self.old s.now (length room.old)) (block_result s.now) self.old room.old (outcome result self.new) room.new }
+    {
+        let group = group_fields(s, self.record, self.last)?;
+        let block = take_units(s, group, self.record, room)?;
+        *self = self.counted(block.key);
+        Ok(Lengths {
+            used: block.used,
+            written: block.written,
+        })
     }
-    let state = day.state;
-    head_in(s, 0, state)
-}
 
-// A day record that is there whole and ends at a place opens the day.
-fn open_day(day: Day, s: &[u8], end: usize) -> Offered
-    requires { day_end s.now ≤ length s.now }
-    ensures { Gave (day_taken s.now end) day result }
-{
-    let d = day_fields(s);
-    let DayAnswer::Is(record) = d else {
-        return Offered::Refused(d.refusal(), day);
-    };
-    Offered::Taken(Step {
-        used: end,
-        written: 0,
-        day: Day::opened(record),
-    })
-}
-
-// A block whose head came: its group record, then its units and the room; its result is written, and the block is counted.
-fn take_block(day: Day, s: &[u8], room: &mut [u8]) -> Offered
-    requires { (group_length ≤ length s.now) × (day.groups < 4294967295) }
-    ensures { Offering (block_taken day s.now (length room.old)) (block_result s.now) day room.old result room.new }
-{
-    let record = day.record;
-    let last = day.last;
-    let g = group_fields(s, record, last);
-    let GroupAnswer::Is(group) = g else {
-        return Offered::Refused(g.refusal(), day);
-    };
-    let b = take_units(s, group, record, room);
-    let BlockAnswer::Is(block) = b else {
-        return Offered::Refused(b.refusal(), day);
-    };
-    let key = block.key;
-    Offered::Taken(Step {
-        used: block.used,
-        written: block.written,
-        day: day.counted(key),
-    })
-}
-
-// An end record that is there whole and ends at a place closes the day.
-fn close_day(day: Day, s: &[u8], end: usize) -> Offered
-    requires { end_length ≤ length s.now }
-    ensures { Gave (end_taken day s.now end) day result }
-{
-    let e = end_fields(s, day.groups);
-    let EndAnswer::Is(_) = e else {
-        return Offered::Refused(e.refusal(), day);
-    };
-    Offered::Taken(Step {
-        used: end,
-        written: 0,
-        day: day.closed(),
-    })
-}
-
-// One record or block, offered to a day; bytes after it are not read.
-pub fn offer(day: Day, s: &[u8], room: &mut [u8]) -> Offered
-    ensures { Offers day s.now room.old result room.new }
-{
-    let h = day_head(day, s);
-    let HeadAnswer::Is(head) = h else {
-        return Offered::Refused(h.refusal(), day);
-    };
-    let role = head.role;
-    match role {
-        Role::Opens => open_day(day, s, head.end),
-        Role::Block => take_block(day, s, room),
-        Role::Closes => close_day(day, s, head.end),
+    // An end record that is there whole and ends at a place closes the day.
+    #[tactic(auto, unfolding(crate::specs::Offers::end_taken, crate::specs::Offers::day_after, terms::specs::Reply::next))]
+    fn close(&mut self, s: &[u8], end: usize) -> Result<Lengths, Refusal>
+        requires { end_length ≤ length s.now }
+        ensures { Gave (end_taken self.old s.now end) self.old (outcome result self.new) }
+    {
+        end_fields(s, self.groups)?;
+        *self = self.closed();
+        Ok(Lengths {
+            used: end,
+            written: 0,
+        })
     }
-}
 
-// One block, offered to a day that takes a block next; any other record is 2.
-pub fn offer_block(day: Day, s: &[u8], room: &mut [u8]) -> Offered
-    ensures { OffersBlock day s.now room.old result room.new }
-{
-    let h = block_head_for(day, s);
-    let HeadAnswer::Is(_) = h else {
-        return Offered::Refused(h.refusal(), day);
-    };
-    take_block(day, s, room)
+    // One record or block, offered to the day; bytes after it are not read. A refusal leaves the day and the room as they were.
+    #[tactic(auto, unfolding(crate::specs::Offers::offer_of, crate::specs::Offers::day_after, crate::specs::Offers::room_after, terms::specs::Reply::next))]
+    pub fn offer(&mut self, s: &[u8], room: &mut [u8]) -> Result<Lengths, Refusal>
+        ensures { Offers self.old s.now room.old (outcome result self.new) room.new }
+    {
+        let head = head_for(*self, s)?;
+        // Three steps that need three things: no plainer as closures.
+        match head.role {
+            Role::Opens => self.open(s, head.end),
+            Role::Block => self.take_block(s, room),
+            Role::Closes => self.close(s, head.end),
+        }
+    }
+
+    // One block, offered to a day that takes a block next; any other record is 2.
+    #[tactic(auto, unfolding(crate::specs::Offers::block_offer_of, crate::specs::Offers::day_after, crate::specs::Offers::room_after, terms::specs::Reply::next))]
+    pub fn offer_block(&mut self, s: &[u8], room: &mut [u8]) -> Result<Lengths, Refusal>
+        ensures { OffersBlock self.old s.now room.old (outcome result self.new) room.new }
+    {
+        block_head_for(*self, s)?;
+        self.take_block(s, room)
+    }
 }

@@ -3,15 +3,16 @@ ghost use Rattle.std.specs.Prelude.{◌≡◌, ◌<◌};
 ghost use Rattle.day.specs.Days.{fresh, opened, counted, closed, could_be_open, possible};
 
 use records::day::DayRecord;
-use records::key::{Key, Last};
+use records::key::Key;
 use walk::table::State;
 
-#[derive(Clone, Copy)]
+// No invariant stands here: a day that no run of calls gives may be offered to as well, and is promised a refusal, 2.
+#[derive(Clone, Copy, PartialEq, Eq, Debug)]
 pub struct Day {
     pub state: State,
     pub record: DayRecord,
     pub groups: u32,
-    pub last: Last,
+    pub last: Option<Key>,
 }
 
 impl Day {
@@ -26,7 +27,7 @@ impl Day {
             state: State::Fresh,
             record: DayRecord::new(0, 0, 0, 0, 0),
             groups: 0,
-            last: Last::Nothing,
+            last: None,
         }
     }
 
@@ -38,7 +39,7 @@ impl Day {
             state: State::Open,
             record,
             groups: 0,
-            last: Last::Nothing,
+            last: None,
         }
     }
 
@@ -47,13 +48,10 @@ impl Day {
         requires { self.groups < 4294967295 }
         ensures { result ≡ counted self key }
     {
-        let state = self.state;
-        let record = self.record;
         Day {
-            state,
-            record,
             groups: self.groups + 1,
-            last: Last::Block(key),
+            last: Some(key),
+            ..self
         }
     }
 
@@ -61,13 +59,9 @@ impl Day {
     pub fn closed(self) -> Day
         ensures { result ≡ closed self }
     {
-        let record = self.record;
-        let last = self.last;
         Day {
             state: State::Closed,
-            record,
-            groups: self.groups,
-            last,
+            ..self
         }
     }
 
@@ -75,19 +69,14 @@ impl Day {
     fn could_be_open(self) -> bool
         ensures { result ≡ could_be_open self }
     {
-        if self.groups == Day::MOST {
-            return false;
-        }
-        let record = self.record;
-        DayRecord::permits(record.quarters)
+        self.groups != Day::MOST && DayRecord::permits(self.record.quarters)
     }
 
     // Whether a run of calls can give it; of a fresh or a closed day only the state is looked at.
     pub fn is_possible(self) -> bool
         ensures { result ≡ possible self }
     {
-        let state = self.state;
-        match state {
+        match self.state {
             State::Fresh => true,
             State::Open => self.could_be_open(),
             State::Closed => true,

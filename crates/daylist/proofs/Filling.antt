@@ -1,13 +1,14 @@
 -- What the pieces of a turn leave: at hand what was and behind it what a read gave, once the lines that wait are written.
-use Prim.Native.Nat.{ℕ, ◌-◌, ◌≤◌, ◌<◌}
+use Prim.Native.Nat.{ℕ, ◌+◌, ◌-◌, ◌≤◌, ◌<◌}
 use mathlib.Core.Path.{◌≡◌, refl, sym, ap, ◌∙◌}
-use mathlib.Core.Bool.{Bool, true, false}
+use mathlib.Core.Bool.{Bool, true, false, false≢true}
 use mathlib.Core.List.{List, [], ◌∷◌, ◌++◌, append_assoc, append-nil}
 use native.Mathlib.Omega.{arith}
 use borrow.Author.Tests.{lt-ltb, le-ltb}
 use lib.IntN.{pos, negsuc}
 use lib.ListN.{length, take, drop, length-append, length-drop, drop_of_length-le}
 use lib.Seq.{length-take-le, take_all, take-append-le, take_at, drop-drop}
+use Rattle.std.specs.List.{copy_within}
 use Rattle.std.specs.Prelude.{Result, Ok, Err, MatchResult}
 use Rattle.std.specs.Io.{ReadsAtMost}
 use Rattle.numbers.specs.Bytes.{laid_at}
@@ -18,7 +19,7 @@ use Rattle.listing.proofs.Inside.{written_by, step-long}
 use Rattle.listing.proofs.Whole.{waits-short}
 use Rattle.daylist.specs.declared.work.Work.{Work}
 use Rattle.daylist.specs.Inner.{Places}
-use Rattle.daylist.specs.Works.{is_going, hand_of, wrote_by, WroteOut, read_by, Read, gave, failed, Refilled, more, none, Waited, unread, wrote, list_step}
+use Rattle.daylist.specs.Works.{is_going, hand_of, wrote_by, WroteOut, read_by, Read, gave, failed, Refilled, more, none, Waited, wrote, list_step}
 use Rattle.daylist.proofs.Buffers.{hand-read, moved}
 
 -- ---- what a read answered
@@ -55,26 +56,19 @@ module _ {w r : Work} {input free : List ℕ} (p : Places w) (long : length inpu
       ∙ ap (λ (x : List ℕ). take m (drop w.from input) ++ x) (take-append-le n free post k)))
   in-front h (failed n e) = none n e
 
-  pub behind_moved : (m : ℕ) (front : List ℕ) → m ≡ w.end - w.from → front ≡ moved input w.from (w.end - w.from) → 65536 ≤ w.end → Read w 0 m free r
-      → Refilled w input r (take m front ++ (free ++ post))
-  behind_moved m front e f h d = rw (f, e) (in-front h (rw e at d))
+  pub behind_moved : (front : List ℕ) → front ≡ copy_within input w.from w.end 0 → 65536 ≤ w.end → Read w 0 (w.end - w.from) free r
+      → Refilled w input r (take (w.end - w.from) front ++ (free ++ post))
+  behind_moved front f h d =
+      let m = w.end - w.from in
+      let z : 0 + m ≡ m = omega arith in
+      let e : front ≡ moved input w.from m = f ∙ ap (λ (k : ℕ). take m (drop w.from input) ++ drop k input) z in
+      rw e (in-front h d)
 
 -- ---- first what is held, then more
 pub clash : {P : Type 0} (t : Bool) → t ≡ true → t ≡ false → P
-clash t a b =
-    let z : ◌≡◌ {A = ℕ} 0 1 = cc in
-    absurd (omega arith)
+clash t a b = absurd (false≢true (sym b ∙ a))
 
 module _ {w f : Work} {input : List ℕ} (e : WroteOut w f) where
-  pub not_taken : is_going w.run ≡ true → is_going f.run ≡ false → Waited w input f input
-  not_taken g h = go e.taken refl
-    where
-      go : (t : Bool) → e.taken ≡ t → Waited w input f input
-      go true q =
-          let same : f.run ≡ w.run = ap (λ (x : Work). x.run) (rw q at e.left) in
-          clash (is_going w.run) g (ap is_going (sym same) ∙ h)
-      go false q = unread (rw q at e.left)
-
   pub then-read : {r : Work} {exit : List ℕ} → is_going f.run ≡ true → Refilled f input r exit → Waited w input r exit
   then-read {r} {exit} g m = go e.taken refl
     where
@@ -96,23 +90,23 @@ abbrev behind_held : Work → List ℕ → List ℕ
 behind_held w output = drop w.full output
 
 abbrev lent : Work → List ℕ → List ℕ
-lent w output = take (length output - w.full) (behind_held w output)
+lent w output = take (65536 - w.full) (behind_held w output)
 
 module _ (w : Work) (input output : List ℕ) {after : List ℕ} {listed : Listed} (p : Places w) (long : length output ≡ 65536)
     (o : Lists (list_of w.listing (hand_of w input) w.ended (length (lent w output))) (lent w output) listed after) where
   room : length (lent w output) ≡ 65536 - w.full
-  room = length-take-le (length output - w.full) (behind_held w output) (omega (arith, length-drop w.full output)) ∙ ap (λ (n : ℕ). n - w.full) long
+  room = length-take-le (65536 - w.full) (behind_held w output) (omega (arith, length-drop w.full output, long))
 
   pub answered : (list_step w input).answer ≡ answer_of listed
   answered = sym (o.replied ∙ ap (λ (n : ℕ). (list_of w.listing (hand_of w input) w.ended n).answer) room)
 
-  pub laid : take w.full output ++ (after ++ drop (length output - w.full) (behind_held w output)) ≡ laid_at output w.full (list_step w input).lines
+  pub laid : take w.full output ++ (after ++ drop (65536 - w.full) (behind_held w output)) ≡ laid_at output w.full (list_step w input).lines
   unfolding laid_at
   laid =
       let lines = (list_step w input).lines in
-      let long-enough : length (behind_held w output) ≤ length output - w.full = omega (arith, length-drop w.full output) in
-      let whole : lent w output ≡ behind_held w output = take_all (length output - w.full) (behind_held w output) long-enough in
-      let gone : drop (length output - w.full) (behind_held w output) ≡ [] = drop_of_length-le (behind_held w output) long-enough in
+      let long-enough : length (behind_held w output) ≤ 65536 - w.full = omega (arith, length-drop w.full output, long) in
+      let whole : lent w output ≡ behind_held w output = take_all (65536 - w.full) (behind_held w output) long-enough in
+      let gone : drop (65536 - w.full) (behind_held w output) ≡ [] = drop_of_length-le (behind_held w output) long-enough in
       let said : after ≡ laid_at (lent w output) 0 lines =
       o.room ∙ ap (λ (n : ℕ). laid_at (lent w output) 0 (list_of w.listing (hand_of w input) w.ended n).lines) room in
       let front : after ≡ lines ++ drop (length lines) (behind_held w output) = said ∙ laid-front (lent w output) lines ∙ ap (λ (x : List ℕ). lines ++ drop (length lines) x) whole in
@@ -122,7 +116,7 @@ module _ (w : Work) (input output : List ℕ) {after : List ℕ} {listed : Liste
       ∙ ap (λ (x : List ℕ). take w.full output ++ lines ++ x) (drop-drop (length lines) w.full output)
 
   -- an answer that tells no bytes leaves the buffer as it was
-  pub silent : written_by (answer_of listed) ≡ 0 → take w.full output ++ (after ++ drop (length output - w.full) (behind_held w output)) ≡ output
+  pub silent : written_by (answer_of listed) ≡ 0 → take w.full output ++ (after ++ drop (65536 - w.full) (behind_held w output)) ≡ output
   silent e =
       let none = nothing (list_step w input).lines (sym (step-long w.listing (hand_of w input) w.ended (65536 - w.full)) ∙ ap written_by answered ∙ e) in
       laid ∙ ap (laid_at output w.full) none ∙ sym (laid_none output w.full)

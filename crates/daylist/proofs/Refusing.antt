@@ -6,8 +6,10 @@ use mathlib.Core.List.{List}
 use native.Mathlib.Omega.{arith}
 use lib.ListN.{length, take}
 use lib.Seq.{length-take-le}
+use Rattle.std.proofs.Math.Logic.{∥∥₁_elim}
+use Rattle.std.proofs.Props.{props}
 use Rattle.numbers.specs.Choice.{pick}
-use Rattle.terms.specs.Refusals.{number_of, no_refusal}
+use Rattle.terms.specs.Refusals.{number_of}
 use Rattle.terms.specs.declared.refusal.Refusal.{Refusal}
 use Rattle.day.specs.declared.value.Day.{Day}
 use Rattle.naming.specs.Words.{Names}
@@ -21,27 +23,13 @@ use Rattle.daylist.specs.Runs.{Turns, begin, turn}
 use Rattle.daylist.specs.Saying.{Ended, Named}
 use Rattle.daylist.proofs.Filling.{clash}
 
--- ---- which runs are refused, and by what
+-- ---- which runs are refused
 abbrev is_refused : Run → Bool
 is_refused Going = false
 is_refused Whole = false
 is_refused (Refused told place) = true
 is_refused InputFailed = false
 is_refused OutputFailed = false
-
-abbrev refusal_on : Run → Refusal
-refusal_on Going = no_refusal
-refusal_on Whole = no_refusal
-refusal_on (Refused told place) = told
-refusal_on InputFailed = no_refusal
-refusal_on OutputFailed = no_refusal
-
-abbrev place_on : Run → ℕ
-place_on Going = 0
-place_on Whole = 0
-place_on (Refused told place) = place
-place_on InputFailed = 0
-place_on OutputFailed = 0
 
 -- ---- the last turn
 module _ {told : Refusal} {place : ℕ} where
@@ -68,8 +56,8 @@ module _ {told : Refusal} {place : ℕ} where
   turn-refuses {w = w} g (lists part a e i o) q = still w.run g (sym (ap (λ (x : Work). x.run) e) ∙ q)
   turn-refuses {w = w} {input = input} g (stops by there n a e i o) q =
       let came = sym (ap (λ (x : Work). x.run) e) ∙ q in
-      let k : by ≡ told = ap refusal_on came in
-      let j : there ≡ place = ap place_on came in
+      let k : by ≡ told = cc in
+      let j : there ≡ place = cc in
       rw (e, i) (rw (k, j) at (step-refuses w.listing (hand_of w input) w.ended (65536 - w.full) a))
   turn-refuses g (ends a e i o) q = unlike Whole refl (sym (ap (λ (x : Work). x.run) e) ∙ q)
   turn-refuses {w = w} g (writes a e i o) q = unwritten w.run e.taken g (sym (ap (λ (x : Work). x.run) e.left) ∙ q)
@@ -92,12 +80,15 @@ module _ {told : Refusal} {place : ℕ} where
       go true e = e
       go false e = unlike OutputFailed refl e
 
-  -- so the line is that of the refusal that the run came to
-  pub refusal-named : {w : Work} {input entry exit : List ℕ} {n : ℕ} → Ended w input → w.run ≡ Refused told place → Names w.listing.day (hand_of w input) told entry n exit
+  -- so the line is that of the refusal that the run came to, whichever run it was
+  pub refusal-named : {w : Work} {input entry exit : List ℕ} {n : ℕ} → ∥ Ended w input ∥₁ → w.run ≡ Refused told place → Names w.listing.day (hand_of w input) told entry n exit
       → Named w input told place entry n exit
-  refusal-named d q o =
-      let f = run-refuses d q in
-      record { replied = f.replied; place = f.there; line = o }
+  refusal-named {w} {input} {entry} {exit} {n} t q o = ∥∥₁_elim t (Prim.hlevel props) named
+    where
+      named : Ended w input → Named w input told place entry n exit
+      named d =
+          let f = run-refuses d q in
+          record { replied = f.replied; place = f.there; line = o }
 
 -- what is told to have been written lies in the line
 module _ {day : Day} {s : List ℕ} {r : Refusal} {entry exit : List ℕ} {n : ℕ} (o : Names day s r entry n exit) (h : length exit ≡ length entry) where

@@ -5,18 +5,14 @@ ghost use Rattle.daylist.specs.Inner.{Places};
 ghost use Rattle.daylist.specs.Works.{hand_of};
 ghost use Rattle.daylist.specs.Saying.{CameTo};
 
-use crate::work::Work;
+use crate::work::{ROOM, Work};
 use naming::name::name;
 use terms::refusal::Refusal;
 
 // The refusal that ended the run is named from the list's day and the bytes at hand, which stand as they were when these were refused.
-pub fn plant_line(w: Work, r: Refusal, input: &[u8], line: &mut [u8]) -> usize
-    requires { CameTo w r × (Places w × (length input.now ≡ 65536)) }
+pub fn plant_line(w: Work, r: Refusal, input: &[u8; ROOM], line: &mut [u8]) -> usize
+    requires { CameTo w r × Places w }
     ensures { Names w.listing.day (hand_of w input.now) r line.old result line.new }
 {
-    let listing = w.listing;
-    let day = listing.day;
-    let from = w.from;
-    let end = w.end;
-    name(day, &input[from..end], r, line)
+    name(w.listing.day, &input[w.from..w.end], r, line)
 }

@@ -27,15 +27,11 @@ impl<W: io::Write> io::Write for Watched<W> {
     ghost contents = { λ s. W.contents s.writer };
 
     fn write(&mut self, bytes: &[u8]) -> io::Result<usize> {
-        match self.writer.write(bytes) {
-            Ok(n) => Ok(n),
-            Err(e) => {
-                if e.kind() == io::ErrorKind::BrokenPipe {
-                    self.unread = true;
-                }
-                Err(e)
-            }
+        let wrote = self.writer.write(bytes);
+        if let Err(e) = &wrote {
+            self.unread |= e.kind() == io::ErrorKind::BrokenPipe;
         }
+        wrote
     }
 
     fn flush(&mut self) -> io::Result<()> {

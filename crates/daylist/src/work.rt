@@ -1,5 +1,5 @@
 // What the program keeps between two steps of the list.
-ghost use Rattle.std.specs.Prelude.{◌≡◌, ◌+◌, ◌-◌, ◌≤◌, ◌<◌, length, take, drop, true, ◌++◌, pos, negsuc, IfOk, MatchResult};
+ghost use Rattle.std.specs.Prelude.{◌≡◌, ◌+◌, ◌-◌, ◌≤◌, ◌<◌, length, true, pos, negsuc, IfOk, MatchResult};
 ghost use Rattle.daylist.specs.Inner.{Places};
 ghost use Rattle.daylist.specs.declared.work.Run.TheVariants.{Refused};
 ghost use Rattle.daylist.specs.Works.{fresh_work, is_going, held_of, advanced_by, stopped_by, wrote_by, WroteOut, read_by, Read, Refilled, Waited};
@@ -9,8 +9,11 @@ use listing::list::{Listing, Part, Stop};
 use std::io;
 use terms::refusal::Refusal;
 
+// The bytes of either buffer.
+pub const ROOM: usize = 65536;
+
 // How far the run is: it goes on, the list is whole, or what ended it.
-#[derive(Clone, Copy)]
+#[derive(Clone, Copy, PartialEq, Eq, Debug)]
 pub enum Run {
     Going,
     Whole,
@@ -24,17 +27,11 @@ impl Run {
     pub fn is_going(self) -> bool
         ensures { result ≡ is_going self }
     {
-        match self {
-            Run::Going => true,
-            Run::Whole => false,
-            Run::Refused(_, _) => false,
-            Run::InputFailed => false,
-            Run::OutputFailed => false,
-        }
+        matches!(self, Run::Going)
     }
 }
 
-// The list so far; the bytes at hand lie from `from` to `end` of the input buffer, the first `full` bytes of the output buffer wait to be written.
+// The list so far; the bytes at hand lie from `from` to `end` of the input buffer, the first `full` bytes of the output buffer wait to be written. The buffers stay beside it: the definitions of a run (`TookTurn`, `Refilled`) tell apart what becomes of it and of each buffer, and build a Work, so that its places lie in the buffers is a clause (`Places`) and no ghost field.
 #[derive(Clone, Copy)]
 pub struct Work {
     pub listing: Listing,
@@ -45,172 +42,147 @@ pub struct Work {
     pub run: Run,
 }
 
-pub fn fresh() -> Work
-    ensures { result ≡ fresh_work }
-{
-    Work {
-        listing: Listing {
-            day: Day::fresh(),
-            place: 0,
-        },
-        from: 0,
-        end: 0,
-        full: 0,
-        ended: false,
-        run: Run::Going,
+impl Work {
+    pub fn fresh() -> Work
+        ensures { result ≡ fresh_work }
+    {
+        Work {
+            listing: Listing {
+                day: Day::fresh(),
+                place: 0,
+            },
+            from: 0,
+            end: 0,
+            full: 0,
+            ended: false,
+            run: Run::Going,
+        }
     }
-}
 
-// A record or block was listed.
-pub fn advanced(w: Work, part: Part) -> Work
-    requires { Places w × ((w.from + part.used ≤ w.end) × (w.full + part.written ≤ 65536)) }
-    ensures { (result ≡ advanced_by w part) × Places result }
-{
-    let listing = part.listing;
-    let run = w.run;
-    Work {
-        listing,
-        from: w.from + part.used,
-        end: w.end,
-        full: w.full + part.written,
-        ended: w.ended,
-        run,
+    // A record or block was listed.
+    pub fn advanced(self, part: Part) -> Work
+        requires { Places self × ((self.from + part.used ≤ self.end) × (self.full + part.written ≤ 65536)) }
+        ensures { (result ≡ advanced_by self part) × Places result }
+    {
+        Work {
+            listing: part.listing,
+            from: self.from + part.used,
+            full: self.full + part.written,
+            ..self
+        }
     }
-}
 
-// The run comes to this, with so many bytes of a last line.
-pub fn stopped(w: Work, run: Run, n: usize) -> Work
-    requires { Places w × (w.full + n ≤ 65536) }
-    ensures { (result ≡ stopped_by w run n) × Places result }
-{
-    let listing = w.listing;
-    Work {
-        listing,
-        from: w.from,
-        end: w.end,
-        full: w.full + n,
-        ended: w.ended,
-        run,
+    // The run comes to this, with so many bytes of a last line.
+    pub fn stopped(self, run: Run, n: usize) -> Work
+        requires { Places self × (self.full + n ≤ 65536) }
+        ensures { (result ≡ stopped_by self run n) × Places result }
+    {
+        Work {
+            full: self.full + n,
+            run,
+            ..self
+        }
     }
-}
 
-// A record or block was refused.
-pub fn refused(w: Work, stop: Stop) -> Work
-    requires { Places w × (w.full + stop.written ≤ 65536) }
-    ensures { (result ≡ stopped_by w (Refused stop.refusal stop.place) stop.written) × Places result }
-{
-    let told = stop.refusal;
-    stopped(w, Run::Refused(told, stop.place), stop.written)
-}
-
-// The lines that wait were handed over: a run whose lines are not taken ends, whatever it came to.
-fn wrote(w: Work, taken: bool) -> Work
-    requires { Places w }
-    ensures { (result ≡ wrote_by w taken) × Places result }
-{
-    let listing = w.listing;
-    let run = if taken { w.run } else { Run::OutputFailed };
-    Work {
-        listing,
-        from: w.from,
-        end: w.end,
-        full: 0,
-        ended: w.ended,
-        run,
+    // A record or block was refused.
+    pub fn refused(self, stop: Stop) -> Work
+        requires { Places self × (self.full + stop.written ≤ 65536) }
+        ensures { (result ≡ stopped_by self (Refused stop.refusal stop.place) stop.written) × Places result }
+    {
+        self.stopped(Run::Refused(stop.refusal, stop.place), stop.written)
     }
-}
 
-// The lines that wait.
-fn held(w: Work, output: &[u8]) -> &[u8]
-    requires { Places w × (length output.now ≡ 65536) }
-    ensures { result.now ≡ held_of w output.now }
-{
-    let full = w.full;
-    &output[..full]
-}
-
-// The lines that wait are written.
-pub fn flushed<W: io::Write>(writer: &mut W, w: Work, output: &[u8]) -> Work
-    requires { Places w × (length output.now ≡ 65536) }
-    ensures { WroteOut w result × Places result }
-{
-    let taken = writer.write_all(held(w, output)).is_ok();
-    wrote(w, taken)
-}
-
-// Moves the bytes from a place up to another to the front, and gives how many they are.
-fn move_front(input: &mut [u8], from: usize, end: usize) -> usize
-    requires { (from ≤ end) × (end ≤ length input.old) }
-    ensures { (result ≡ end - from) × (input.new ≡ take (end - from) (drop from input.old) ++ drop (end - from) input.old) }
-{
-    let n = end - from;
-    let mut i = 0;
-    while i < n {
-        input[i] = input[from + i];
-        i += 1;
+    // The lines that wait.
+    fn held(self, output: &[u8; ROOM]) -> &[u8]
+        requires { Places self }
+        ensures { result.now ≡ held_of self output.now }
+    {
+        &output[..self.full]
     }
-    n
-}
 
-// What a read answered: so many bytes came, none where the input has ended; one that fails is no end of the input.
-fn read_gave(w: Work, from: usize, end: usize, got: io::Result<usize>) -> Work
-    requires { Places w × ((from ≤ end) × IfOk got (λ n. end + n ≤ 65536)) }
-    ensures { MatchResult got (λ n. result ≡ read_by w from end (pos n)) (λ _. result ≡ read_by w from end (negsuc 0)) × Places result }
-{
-    match got {
-        Ok(n) => {
-            let listing = w.listing;
-            let run = w.run;
-            Work {
-                listing,
+    // The lines that wait were handed over: a run whose lines are not taken ends, whatever it came to. `WroteOut` does not tell which it was, so this stands by itself.
+    fn wrote(self, taken: bool) -> Work
+        requires { Places self }
+        ensures { (result ≡ wrote_by self taken) × Places result }
+    {
+        let run = if taken { self.run } else { Run::OutputFailed };
+        Work {
+            full: 0,
+            run,
+            ..self
+        }
+    }
+
+    // The lines that wait are written.
+    pub fn flushed<W: io::Write>(self, writer: &mut W, output: &[u8; ROOM]) -> Work
+        requires { Places self }
+        ensures { WroteOut self result × Places result }
+    {
+        let taken = writer.write_all(self.held(output)).is_ok();
+        self.wrote(taken)
+    }
+
+    // What a read answered: so many bytes came, none where the input has ended; one that fails is no end of the input. `Read` does not tell which it was, so this stands by itself.
+    fn read_gave(self, from: usize, end: usize, got: io::Result<usize>) -> Work
+        requires { Places self × ((from ≤ end) × IfOk got (λ n. end + n ≤ 65536)) }
+        ensures { MatchResult got (λ n. result ≡ read_by self from end (pos n)) (λ _. result ≡ read_by self from end (negsuc 0)) × Places result }
+    {
+        match got {
+            Ok(n) => Work {
                 from,
                 end: end + n,
-                full: w.full,
                 ended: n == 0,
-                run,
-            }
+                ..self
+            },
+            Err(_) => self.stopped(Run::InputFailed, 0),
         }
-        Err(_) => stopped(w, Run::InputFailed, 0),
     }
-}
 
-// More is read into the room behind the bytes at hand, which is all that the buffer has there.
-fn read_more<R: io::Read>(reader: &mut R, w: Work, from: usize, end: usize, free: &mut [u8]) -> Work
-    requires { Places w × ((from ≤ end) × ((end + length free.old ≡ 65536) × (0 < length free.old))) }
-    ensures { Read w from end free.new result × Places result }
-{
-    let got = reader.read(free);
-    read_gave(w, from, end, got)
-}
-
-// More of the input is read, behind the bytes at hand, which are moved to the front where there is no room behind them.
-fn refilled<R: io::Read>(reader: &mut R, w: Work, input: &mut [u8]) -> Work
-    requires { Places w × ((length input.old ≡ 65536) × (w.end - w.from < 65536)) }
-    ensures { Refilled w input.old result input.new × Places result }
-{
-    let end = w.end;
-    if end < input.len() {
-        return read_more(reader, w, w.from, end, &mut input[end..]);
+    // More is read into the room behind the bytes at hand, which lie at these places.
+    fn read_more<R: io::Read>(
+        self,
+        reader: &mut R,
+        from: usize,
+        end: usize,
+        free: &mut [u8],
+    ) -> Work
+        requires { Places self × ((from ≤ end) × ((end + length free.old ≡ 65536) × (0 < length free.old))) }
+        ensures { Read self from end free.new result × Places result }
+    {
+        let got = reader.read(free);
+        self.read_gave(from, end, got)
     }
-    let n = move_front(input, w.from, end);
-    read_more(reader, w, 0, n, &mut input[n..])
-}
 
-// The list waits: first what it wrote is handed on, and then more is read.
-pub fn waited<R: io::Read, W: io::Write>(
-    reader: &mut R,
-    writer: &mut W,
-    w: Work,
-    input: &mut [u8],
-    output: &[u8],
-) -> Work
-    requires { Places w × ((is_going w.run ≡ true) × ((length input.old ≡ 65536) × ((length output.now ≡ 65536) × (w.end - w.from < 65536)))) }
-    ensures { Waited w input.old result input.new × Places result }
-{
-    let flushed = flushed(writer, w, output);
-    let run = flushed.run;
-    if run.is_going() {
-        return refilled(reader, flushed, input);
+    // More of the input is read, behind the bytes at hand, which are moved to the front where there is no room behind them.
+    fn refilled<R: io::Read>(self, reader: &mut R, input: &mut [u8; ROOM]) -> Work
+        requires { Places self × (self.end - self.from < 65536) }
+        ensures { Refilled self input.old result input.new × Places result }
+    {
+        let end = self.end;
+        if end < ROOM {
+            return self.read_more(reader, self.from, end, &mut input[end..]);
+        }
+        let n = end - self.from;
+        input.copy_within(self.from..end, 0);
+        self.read_more(reader, 0, n, &mut input[n..])
     }
-    flushed
+
+    // The list waits: first what it wrote is handed on, and then more is read.
+    pub fn waited<R: io::Read, W: io::Write>(
+        self,
+        reader: &mut R,
+        writer: &mut W,
+        input: &mut [u8; ROOM],
+        output: &[u8; ROOM],
+    ) -> Work
+        requires { Places self × ((is_going self.run ≡ true) × (self.end - self.from < 65536)) }
+        ensures { Waited self input.old result input.new × Places result }
+    {
+        let flushed = self.flushed(writer, output);
+        if flushed.run.is_going() {
+            flushed.refilled(reader, input)
+        } else {
+            flushed
+        }
+    }
 }

@@ -1,4 +1,6 @@
 -- From a reading of units to whether all of them pass: a look at the columns is a look at the units.
+use Rattle.std.specs.Prelude.{Option, Some, None}
+use Rattle.terms.specs.Reply.{is}
 use Prim.Native.Nat.{ℕ, ◌<◌}
 use mathlib.Core.Path.{◌≡◌, sym, ap, ◌∙◌}
 use mathlib.Core.Bool.{true, false, false≢true}
@@ -18,7 +20,7 @@ use Rattle.records.specs.Decoding.{unit_n0}
 use Rattle.decode.specs.declared.Reading.{Reading}
 use Rattle.decode.specs.Block.{block_count}
 use Rattle.decode.specs.Inner.{Begun, Decoded, Amounts, UnitsRead, UnitsPassed}
-use Rattle.decode.proofs.Units.{amounts-passed}
+use Rattle.decode.proofs.Units.{amounts-passed, no_reading, same-reading}
 
 -- the columns that were read are looked at as the units themselves
 module _ {s : List ℕ} {p : ℤ} {class taken : List ℕ} {n0 down up : List ℤ} (d : Decoded s p class taken n0 down up) where
@@ -42,20 +44,25 @@ module _ {s : List ℕ} {p : ℤ} {class taken : List ℕ} {n0 down up : List �
   pub unlooked : ((i : ℕ) → i < block_count s → Amounts s i) → amounts_pass n0 down up ≡ true
   unlooked all = amounts-only n0 down up (λ i l. entry i (omega (arith, start-count)) ∙ all i (omega (arith, start-count)))
 
-module _ {s : List ℕ} {day : DayRecord} {r : Reading} {class taken : List ℕ} {n0 down up : List ℤ} (b : Begun s) (u : UnitsRead s day r class taken n0 down up) where
+module _ {s : List ℕ} {day : DayRecord} {r q : Option Reading} {class taken : List ℕ} {n0 down up : List ℤ} (b : Begun s) (u : UnitsRead s day r class taken n0 down up) where
   -- the reading was broken off, or came to its end and all pass, or not
-  pub pass-broken : {q : Reading} → r.whole ≡ false → q.whole ≡ false → UnitsPassed s day q class taken n0 down up
+  pub pass-broken : r ≡ None → q ≡ None → UnitsPassed s day q class taken n0 down up
   pass-broken w e =
-      record { decoded = λ t. absurd (false≢true (sym e ∙ t)); ends = λ t. absurd (false≢true (sym e ∙ t)); fails = λ _. u.fails w }
+      record { decoded = λ _ t. absurd (no_reading e t); ends = λ _ t. absurd (no_reading e t); fails = λ _. u.fails w }
 
-  pub pass_all : r.whole ≡ true → amounts_pass n0 down up ≡ true → UnitsPassed s day r class taken n0 down up
-  pass_all w e =
-      record { decoded = u.decoded; ends = λ _. u.ends w (looked (u.decoded w) e); fails = λ f. absurd (false≢true (sym f ∙ w)) }
-
-  pub pass-not : {q : Reading} → r.whole ≡ true → amounts_pass n0 down up ≡ false → q.whole ≡ false → UnitsPassed s day q class taken n0 down up
-  pass-not w e f =
+  pub pass_all : {read : Reading} → r ≡ Some read → amounts_pass n0 down up ≡ true → q ≡ Some read → UnitsPassed s day q class taken n0 down up
+  pass_all {read} w e f =
+      let fine = u.ends read w (looked (u.decoded read w) e) in
       record {
-        decoded = λ t. absurd (false≢true (sym f ∙ t));
-        ends = λ t. absurd (false≢true (sym f ∙ t));
-        fails = λ _ end k. absurd (false≢true (sym e ∙ unlooked (u.decoded w) (amounts-passed s day b k)));
+        decoded = λ x t. u.decoded x (w ∙ sym f ∙ t);
+        ends = λ x t. fine ∙ ap (λ (y : Reading). is y.end) (same-reading f t);
+        fails = λ n. absurd (no_reading n f);
+      }
+
+  pub pass-not : {read : Reading} → r ≡ Some read → amounts_pass n0 down up ≡ false → q ≡ None → UnitsPassed s day q class taken n0 down up
+  pass-not {read} w e f =
+      record {
+        decoded = λ _ t. absurd (no_reading f t);
+        ends = λ _ t. absurd (no_reading f t);
+        fails = λ _ end k. absurd (false≢true (sym e ∙ unlooked (u.decoded read w) (amounts-passed s day b k)));
       }

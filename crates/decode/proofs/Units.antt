@@ -1,6 +1,7 @@
 -- A loop over the units of a block: the columns are filled up to the unit here, and p is the sum of PC up to it.
+use Rattle.std.specs.Prelude.{Ok, Option, Some, None}
 use Prim.Native.Nat.{ℕ, ◌+◌, ◌*◌, ◌≤◌, ◌<◌}
-use mathlib.Core.Path.{◌≡◌, refl, sym, ap, ◌∙◌}
+use mathlib.Core.Path.{◌≡◌, refl, sym, ap, subst, ◌∙◌}
 use mathlib.Core.Bool.{Bool, true, false, false≢true}
 use mathlib.Core.List.{List}
 use native.Mathlib.Omega.{arith}
@@ -8,7 +9,7 @@ use native.Mathlib.Numerals.{add-one}
 use lib.IntN.{ℤ, pos, ◌+ℤ◌}
 use lib.ListN.{length}
 use mir.Syntax.{w32}
-use mir.Val.{SFits, to_z, of_z, bool_byte}
+use mir.Val.{SFits, to_z, of_z}
 use mir.ValLaws.{to_z-of_z}
 use Rattle.numbers.specs.Range.{Within}
 use Rattle.numbers.specs.Column.{column}
@@ -17,7 +18,6 @@ use Rattle.numbers.proofs.Integers.{zarith, plus}
 use Rattle.numbers.proofs.Sums.{sum_z-column}
 use Rattle.terms.specs.Checks.{most_units}
 use Rattle.terms.specs.Reply.{Reply, is, refused}
-use Rattle.terms.specs.declared.refusal.Checked.TheVariants.{Fine}
 use Rattle.terms.proofs.Replies.{never}
 use Rattle.terms.proofs.FirstRefused as reading
 use Rattle.terms.proofs.FirstRefused.{Left}
@@ -27,7 +27,7 @@ use Rattle.records.specs.declared.unit.UnitRecord.{UnitRecord}
 use Rattle.records.specs.Layouts.{group_length, is_unit, margins_of, unit_at}
 use Rattle.records.specs.Reading.{unit_end, place_from, unit_place, unit_in, unit_of, ends_fit, unit_faults}
 use Rattle.records.specs.Decoding.{unit_n0, unit_implicit, pc_in}
-use Rattle.records.specs.Inner.{is_plain, is_interval, is_whole, marks_pass}
+use Rattle.records.specs.Inner.{is_whole, marks_pass}
 use Rattle.records.proofs.Accepted as accepted
 use Rattle.records.proofs.Accepted.{unit-in}
 use Rattle.records.proofs.UnitHeads.{kind-known, ends-fit, unit-lies}
@@ -42,11 +42,6 @@ use Rattle.decode.proofs.Filling.{Filled, fill_none, fill_more, fill-all}
 module _ {s : List ℕ} (b : Passed s) where
   pub unit-there : (i : ℕ) → i < block_count s → is_whole s (unit_place s i) ≡ true
   unit-there = accepted.unit-there s b.day (block_count s) b.long b.units
-
--- a mark is the number that it adds to a reason
-pub mark : (b : Bool) → bool_byte b ≡ bit b
-mark true = refl
-mark false = refl
 
 -- a quantity in its range is what its bits say
 pub back : (z : ℤ) → Within 1000000 z → to_z w32 (of_z w32 z) ≡ z
@@ -132,9 +127,8 @@ module _ (s : List ℕ) (day : DayRecord) where
           go left (is u) q = unread u q
           go left (refused n k) q = never (reading.stop (units-steps s day) count i left l q ∙ e)
 
-      pub not_there : is_plain s here ≡ false → is_interval s here ≡ false → (end : ℕ) → units_at s day ≡ is end → ⊥
-      not_there plain interval =
-          let gone : is_whole s here ≡ false = rw (plain, interval) in
+      pub not_there : is_whole s here ≡ false → (end : ℕ) → units_at s day ≡ is end → ⊥
+      not_there gone =
           stopped (λ u e. false≢true (sym gone ∙ unit-lies s here floor day e))
 
       pub not-marked : {u : UnitRecord} → unit_at s here ≡ u → marks_pass u floor day ≡ false → (end : ℕ) → units_at s day ≡ is end → ⊥
@@ -182,7 +176,7 @@ module _ (s : List ℕ) (day : DayRecord) where
             onward all =
                 let a = faults-none _ _ (all i (omega arith)) in
                 let w = here_in in
-                let fine : unit_faults (unit_at s here) floor day ≡ Fine =
+                let fine : unit_faults (unit_at s here) floor day ≡ Ok tt =
                 rw v (marks-enough u floor day (ap (λ (x : UnitRecord). is_unit x.kind) (sym v) ∙ kind-known s here) (ap ends_fit (sym v) ∙ ends-fit s here) passes (rw w a.0) (rw w a.1.0) (rw w a.1.1.0) (rw w a.1.1.1)) in
                 let next = reading.turn (units-steps s day) count i (g.left (λ j k. all j (omega arith))) l (unit-read s here floor day there fine) in
                 rw (eh, ef ∙ ap (λ (x : UnitRecord). x.number + 1) (sym v)) next
@@ -240,11 +234,26 @@ module _ (s : List ℕ) (day : DayRecord) where
       }
 
 -- a reading that was broken off, and one that came to its end
-module _ (s : List ℕ) (day : DayRecord) {r : Reading} {class taken : List ℕ} {n0 down up : List ℤ} where
-  pub broken : r.whole ≡ false → ((end : ℕ) → units_at s day ≡ is end → ⊥) → UnitsRead s day r class taken n0 down up
-  broken w none =
-      record { decoded = λ t. absurd (false≢true (sym w ∙ t)); ends = λ t all. absurd (false≢true (sym w ∙ t)); fails = λ _. none }
+abbrev whole : Option Reading → Bool
+whole (Some _) = true
+whole None = false
 
-  pub came : r.whole ≡ true → Decoded s r.p.0 class taken n0 down up → (((i : ℕ) → i < block_count s → Amounts s i) → units_at s day ≡ is r.end)
+pub no_reading : {r : Option Reading} {read : Reading} → r ≡ None → r ≡ Some read → ⊥
+no_reading n y = false≢true (ap whole (sym n ∙ y))
+
+pub same-reading : {r : Option Reading} {a b : Reading} → r ≡ Some a → r ≡ Some b → a ≡ b
+same-reading p q = let e = sym p ∙ q in cc
+
+module _ (s : List ℕ) (day : DayRecord) {r : Option Reading} {class taken : List ℕ} {n0 down up : List ℤ} where
+  pub broken : r ≡ None → ((end : ℕ) → units_at s day ≡ is end → ⊥) → UnitsRead s day r class taken n0 down up
+  broken w none =
+      record { decoded = λ _ t. absurd (no_reading w t); ends = λ _ t all. absurd (no_reading w t); fails = λ _. none }
+
+  pub came : {read : Reading} → r ≡ Some read → Decoded s read.p.0 class taken n0 down up → (((i : ℕ) → i < block_count s → Amounts s i) → units_at s day ≡ is read.end)
       → UnitsRead s day r class taken n0 down up
-  came w d e = record { decoded = λ _. d; ends = λ _. e; fails = λ f. absurd (false≢true (sym f ∙ w)) }
+  came w d e =
+      record {
+        decoded = λ x t. subst (λ (y : Reading). Decoded s y.p.0 class taken n0 down up) (same-reading w t) d;
+        ends = λ x t all. e all ∙ ap (λ (y : Reading). is y.end) (same-reading w t);
+        fails = λ f. absurd (no_reading f w);
+      }

@@ -1,5 +1,5 @@
 -- What inner functions ask of each other: no promise rests on it.
-use Rattle.std.specs.Prelude.{ℕ, ◌-◌, ◌*◌, ◌≤◌, ◌<◌, ◌≡◌, Bool, true, false, List, ◌++◌, ℤ, length, set, drop}
+use Rattle.std.specs.Prelude.{ℕ, ◌-◌, ◌*◌, ◌≤◌, ◌<◌, ◌≡◌, Bool, true, false, List, ◌++◌, ℤ, length, set, drop, Option, Some, None}
 use Rattle.numbers.specs.Range.{Within}
 use Rattle.numbers.specs.Sum.{sum_z, bit}
 use Rattle.terms.specs.Reply.{Reply, is}
@@ -7,10 +7,10 @@ use Rattle.terms.specs.Checks.{most_units}
 use Rattle.group.specs.Inner.{faults_of}
 use Rattle.records.specs.declared.day.DayRecord.{DayRecord}
 use Rattle.records.specs.declared.unit.UnitRecord.{UnitRecord}
-use Rattle.records.specs.Layouts.{group_length, margins_of}
+use Rattle.records.specs.Layouts.{group_length, margins_of, unit_at}
 use Rattle.records.specs.Reading.{unit_place, unit_in, units_of}
 use Rattle.records.specs.Decoding.{unit_n0, unit_implicit, classes_in, taken_in, n0_in, pc_in, step_down_in, step_up_in}
-use Rattle.records.specs.Inner.{marks_pass}
+use Rattle.records.specs.Inner.{is_whole, marks_pass}
 use Rattle.decode.specs.declared.Reading.{Reading}
 use Rattle.decode.specs.Block.{block_count}
 
@@ -76,14 +76,19 @@ pub record ReadTo (s : List ℕ) (day : DayRecord) (class taken : List ℕ) (n0 
   pub downs : down ≡ step_down_in s i ++ drop i down
   pub ups : up ≡ step_up_in s i ++ drop i up
 
+-- the unit record at a place, or that none lies there whole
+abbrev pub UnitOn : List ℕ → ℕ → Option UnitRecord → Type 0
+UnitOn s here (Some u) = (unit_at s here ≡ u) × (is_whole s here ≡ true)
+UnitOn s here None = is_whole s here ≡ false
+
 -- units read without a look at nominations and margins: where these pass too the block's units do; a reading that was broken off says that they do not
-pub record UnitsRead (s : List ℕ) (day : DayRecord) (r : Reading) (class taken : List ℕ) (n0 down up : List ℤ) : Type 0 where
-  pub decoded : r.whole ≡ true → Decoded s r.p.0 class taken n0 down up
-  pub ends : r.whole ≡ true → ((i : ℕ) → i < block_count s → Amounts s i) → units_at s day ≡ is r.end
-  pub fails : r.whole ≡ false → (end : ℕ) → units_at s day ≡ is end → ⊥
+pub record UnitsRead (s : List ℕ) (day : DayRecord) (r : Option Reading) (class taken : List ℕ) (n0 down up : List ℤ) : Type 0 where
+  pub decoded : (read : Reading) → r ≡ Some read → Decoded s read.p.0 class taken n0 down up
+  pub ends : (read : Reading) → r ≡ Some read → ((i : ℕ) → i < block_count s → Amounts s i) → units_at s day ≡ is read.end
+  pub fails : r ≡ None → (end : ℕ) → units_at s day ≡ is end → ⊥
 
 -- units read with a look at all: they pass, or one of them does not
-pub record UnitsPassed (s : List ℕ) (day : DayRecord) (r : Reading) (class taken : List ℕ) (n0 down up : List ℤ) : Type 0 where
-  pub decoded : r.whole ≡ true → Decoded s r.p.0 class taken n0 down up
-  pub ends : r.whole ≡ true → units_at s day ≡ is r.end
-  pub fails : r.whole ≡ false → (end : ℕ) → units_at s day ≡ is end → ⊥
+pub record UnitsPassed (s : List ℕ) (day : DayRecord) (r : Option Reading) (class taken : List ℕ) (n0 down up : List ℤ) : Type 0 where
+  pub decoded : (read : Reading) → r ≡ Some read → Decoded s read.p.0 class taken n0 down up
+  pub ends : (read : Reading) → r ≡ Some read → units_at s day ≡ is read.end
+  pub fails : r ≡ None → (end : ℕ) → units_at s day ≡ is end → ⊥

@@ -27,7 +27,7 @@ use Rattle.walk.specs.declared.table.Role.TheVariants.{Block}
 use Rattle.walk.specs.Table.{role_of}
 use Rattle.decode.specs.Block.{block_count}
 use Rattle.blocks.specs.Blocks.{group_told, block_group, block_result, unit_result}
-use Rattle.day.specs.declared.offer.Step.{Step}
+use Rattle.day.specs.Outcome.{Step}
 use Rattle.day.specs.Days.{opened}
 use Rattle.day.specs.Offers.{offer_of, block_offer_of, room_after}
 use Rattle.day.proofs.Taking.{takes}

@@ -4,7 +4,7 @@ use Rattle.terms.specs.Reply.{Reply, is, refused, next}
 use Rattle.records.specs.declared.day.DayRecord.{DayRecord}
 use Rattle.records.specs.Reading.{day_of}
 use Rattle.walk.specs.Table.{block_head_in}
-use Rattle.day.specs.declared.offer.Step.{Step}
+use Rattle.day.specs.Outcome.{Step}
 use Rattle.day.specs.Days.{opened}
 use Rattle.blocks.specs.Blocks.{block_result}
 use Rattle.day.specs.Offers.{offer_of, room_after}

@@ -9,8 +9,8 @@ use Rattle.records.specs.Longest.{longest_result}
 use Rattle.writers.specs.Results.{result_length}
 use Rattle.walk.specs.declared.table.Role.TheVariants.{Block}
 use Rattle.walk.specs.Table.{role_of}
-use Rattle.day.specs.declared.offer.Step.{Step}
-use Rattle.day.specs.declared.offer.Offered.TheVariants.{Taken}
+use Rattle.day.specs.Outcome.{Step}
+use Rattle.day.specs.Outcome.{Taken}
 use Rattle.day.specs.Days.{opened}
 use Rattle.day.specs.Offers.{Offers}
 

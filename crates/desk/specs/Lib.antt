@@ -1,4 +1,3 @@
 -- What the desk's screen program gets back.
 pub mod Desk
-pub mod Inner
 pub mod Header

@@ -1,4 +1,5 @@
 -- A unit of which only the working margins cross has its interval above its margins or below them: the larger of M- and the lower end above the smaller of M+ and the upper end leaves two of four cases, as each pair is in order.
+use Rattle.std.specs.Prelude.{Result, Ok, Err}
 use Prim.Native.Nat.{ℕ}
 use mathlib.Core.Path.{◌≡◌, refl, sym, ap, ◌∙◌}
 use mathlib.Core.Bool.{Bool, true, false, ◌&&◌, false≢true, and-false}
@@ -11,8 +12,6 @@ use Rattle.numbers.specs.Choice.{pick}
 use Rattle.terms.specs.Refusals.{number_of, why_of, check}
 use Rattle.terms.specs.declared.refusal.Fault.{Fault}
 use Rattle.terms.specs.declared.refusal.Fault.TheVariants as F
-use Rattle.terms.specs.declared.refusal.Checked.{Checked}
-use Rattle.terms.specs.declared.refusal.Checked.TheVariants.{Fine, Faulty}
 use Rattle.records.specs.declared.day.DayRecord.{DayRecord}
 use Rattle.records.specs.declared.unit.UnitRecord.{UnitRecord}
 use Rattle.records.specs.Layouts.{unit_kind, interval_kind, full_lower, full_upper, with_ends, unit_step_down, unit_step_up, unit_lower, unit_upper, value_at, body_at, unit_at, larger_of, smaller_of}
@@ -34,7 +33,7 @@ module _ (s : List ℕ) (at floor : ℕ) (day : DayRecord) where
   silent : (fault : Fault) → eqb (number_of (why_of fault)) 19 ≡ false → Telling fault
   silent fault other e = absurd (false≢true (sym other ∙ ap (λ n. eqb n 19) e))
 
-  past : (t : Bool) (fault : Fault) (rest : Checked) → eqb (number_of (why_of fault)) 19 ≡ false → Only Telling rest → Only Telling (check t fault rest)
+  past : (t : Bool) (fault : Fault) (rest : Result Unit Fault) → eqb (number_of (why_of fault)) 19 ≡ false → Only Telling rest → Only Telling (check t fault rest)
   past t fault rest other = only-check Telling t fault rest (silent fault other)
 
   age : (run made : ℕ) → Telling (margin_fault run made)
@@ -57,21 +56,21 @@ module _ (s : List ℕ) (at floor : ℕ) (day : DayRecord) where
   upper = value_at s at unit_upper
 
   -- the checks of order, of an 04h and of a 03h
-  ends : Only Telling (check (le_z down up) F.Crossed (check (le_z lower upper) F.EndsCrossed (check (le_z (larger_of down lower) (smaller_of up upper)) F.WorkingCrossed Fine)))
+  ends : Only Telling (check (le_z down up) F.Crossed (check (le_z lower upper) F.EndsCrossed (check (le_z (larger_of down lower) (smaller_of up upper)) F.WorkingCrossed (Ok tt))))
   unfolding check
   ends = go (le_z down up) (le_z lower upper) (le_z (larger_of down lower) (smaller_of up upper)) refl refl refl
     where
       go : (m i w : Bool) → le_z down up ≡ m → le_z lower upper ≡ i → le_z (larger_of down lower) (smaller_of up upper) ≡ w
-          → Only Telling (check m F.Crossed (check i F.EndsCrossed (check w F.WorkingCrossed Fine)))
+          → Only Telling (check m F.Crossed (check i F.EndsCrossed (check w F.WorkingCrossed (Ok tt))))
       go true true true x y z = only-fine Telling
-      go true true false x y z = only-check Telling false F.WorkingCrossed Fine (λ e. no_room (le_z down lower) (le_z up upper) down up lower upper x y z) (only-fine Telling)
-      go true false w x y z = past false F.EndsCrossed Fine refl (only-fine Telling)
-      go false i w x y z = past false F.Crossed Fine refl (only-fine Telling)
+      go true true false x y z = only-check Telling false F.WorkingCrossed (Ok tt) (λ e. no_room (le_z down lower) (le_z up upper) down up lower upper x y z) (only-fine Telling)
+      go true false w x y z = past false F.EndsCrossed (Ok tt) refl (only-fine Telling)
+      go false i w x y z = past false F.Crossed (Ok tt) refl (only-fine Telling)
 
-  margins : (t : Bool) → Only Telling (check t F.Crossed (check t F.WorkingCrossed Fine))
+  margins : (t : Bool) → Only Telling (check t F.Crossed (check t F.WorkingCrossed (Ok tt)))
   unfolding check
   margins true = only-fine Telling
-  margins false = past false F.Crossed Fine refl (only-fine Telling)
+  margins false = past false F.Crossed (Ok tt) refl (only-fine Telling)
 
   abbrev unit : Bool → UnitRecord
   unit t = with_ends (body_at s at) (pick t interval_kind unit_kind) (pick t lower full_lower) (pick t upper full_upper)
@@ -97,6 +96,6 @@ module _ (s : List ℕ) (at floor : ℕ) (day : DayRecord) where
       (past _ F.Kind _ refl (only-also Telling _ _ (marks _) (only-also Telling _ _ (ranges _) (orders t))))
       (only-check Telling _ _ _ (age day.run (unit t).made) (only-fine Telling))
 
-  pub ends-apart : unit_faults (unit_at s at) floor day ≡ Faulty F.WorkingCrossed → Apart s at
+  pub ends-apart : unit_faults (unit_at s at) floor day ≡ Err F.WorkingCrossed → Apart s at
   unfolding unit_at
   ends-apart e = told (eqb (byte_at s at) interval_kind) F.WorkingCrossed e refl

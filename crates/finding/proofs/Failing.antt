@@ -1,4 +1,5 @@
 -- The first of some units that does not pass: those before it do, and the refusal is its own. By induction over the units, each read from where the one before ends.
+use Rattle.std.specs.Prelude.{Result, Ok, Err}
 use Prim.Native.Nat.{ℕ, zero, suc, ◌+◌, ◌<◌}
 use mathlib.Core.Path.{◌≡◌, refl, sym, ap, ◌∙◌}
 use mathlib.Core.Bool.{true}
@@ -7,8 +8,6 @@ use native.Mathlib.Omega.{arith}
 use Rattle.terms.specs.Reply.{Reply, is, refused, next}
 use Rattle.terms.specs.Refusals.{number_of, why_of, passed}
 use Rattle.terms.specs.declared.refusal.Fault.{Fault}
-use Rattle.terms.specs.declared.refusal.Checked.{Checked}
-use Rattle.terms.specs.declared.refusal.Checked.TheVariants.{Fine, Faulty}
 use Rattle.terms.proofs.Replies.{never, From, front, after, next-from}
 use Rattle.terms.proofs.Numbers.{is_of, by-each}
 use Rattle.records.specs.declared.day.DayRecord.{DayRecord}
@@ -24,15 +23,15 @@ module _ (n p : ℕ) (other : is_of head_numbers n ≡ true → ⊥) where
     pub fault : Fault
     pub end : ℕ
     pub head : unit_head_of s at ≡ is end
-    pub faulty : unit_faults (unit_at s at) floor d ≡ Faulty fault
+    pub faulty : unit_faults (unit_at s at) floor d ≡ Err fault
     pub number : n ≡ number_of (why_of fault)
     pub place : p ≡ at + fault_place fault
 
-  checks-no : (s : List ℕ) (at floor : ℕ) (d : DayRecord) (end : ℕ) → unit_head_of s at ≡ is end → (checks : Checked) → unit_faults (unit_at s at) floor d ≡ checks
+  checks-no : (s : List ℕ) (at floor : ℕ) (d : DayRecord) (end : ℕ) → unit_head_of s at ≡ is end → (checks : Result Unit Fault) → unit_faults (unit_at s at) floor d ≡ checks
       → ◌≡◌ {A = Reply UnitRecord} (passed (λ fault. at + fault_place fault) checks (is (unit_at s at))) (refused n p) → Faulted s at floor d
   unfolding passed
-  checks-no s at floor d end h Fine c e = never (sym e)
-  checks-no s at floor d end h (Faulty fault) c e =
+  checks-no s at floor d end h (Ok tt) c e = never (sym e)
+  checks-no s at floor d end h (Err fault) c e =
       let a : number_of (why_of fault) ≡ n = cc in
       let b : at + fault_place fault ≡ p = cc in
       record { fault = fault; end = end; head = h; faulty = c; number = sym a; place = sym b }
@@ -55,7 +54,7 @@ module _ (n p : ℕ) (other : is_of head_numbers n ≡ true → ⊥) where
     pub fails : units_of s at floor d (suc index) ≡ refused n p
     pub head : unit_head_of s (place_from s at index) ≡ is end
     pub least : ℕ
-    pub faulty : unit_faults (unit_at s (place_from s at index)) least d ≡ Faulty fault
+    pub faulty : unit_faults (unit_at s (place_from s at index)) least d ≡ Err fault
     pub number : n ≡ number_of (why_of fault)
     pub place : p ≡ place_from s at index + fault_place fault
 

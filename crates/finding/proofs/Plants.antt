@@ -1,4 +1,5 @@
 -- A refusal of a unit's field names the first unit that does not pass: the offer's checks lead to its units, and the walk over them to its record.
+use Rattle.std.specs.Prelude.{Err}
 use Prim.Native.Nat.{ℕ, zero, suc, ◌+◌, ◌-◌, ◌≤◌, ◌<◌}
 use mathlib.Core.Path.{◌≡◌, refl, sym, ap, ◌∙◌}
 use mathlib.Core.Bool.{Bool, true, false, not, false≢true}
@@ -11,7 +12,6 @@ use Rattle.terms.specs.Reply.{Reply, is, refused}
 use Rattle.terms.specs.Refusals.{number_of, why_of, refusal}
 use Rattle.terms.specs.declared.refusal.Fault.{Fault}
 use Rattle.terms.specs.declared.refusal.Fault.TheVariants as A
-use Rattle.terms.specs.declared.refusal.Checked.TheVariants.{Faulty}
 use Rattle.terms.specs.declared.refusal.Refusal.{Refusal}
 use Rattle.terms.proofs.Replies.{next-from, from_either}
 use Rattle.terms.proofs.Same.{why_by, why-back, why-same}
@@ -33,7 +33,7 @@ use Rattle.day.specs.Checking.{block_fields_of}
 use Rattle.day.specs.Offers.{head_for, block_taken, taken, offer_of}
 use Rattle.day.proofs.ByKind.{head-came, group-long}
 use Rattle.day.proofs.Numbers.{by-head-for, by-opens, by-closes}
-use Rattle.finding.specs.declared.spot.Spot.TheVariants.{Unit}
+use Rattle.std.specs.Prelude.{Some}
 use Rattle.finding.specs.declared.named.UnitField.TheVariants as U
 use Rattle.finding.specs.declared.named.Field.TheVariants as F
 use Rattle.finding.specs.declared.named.Held.TheVariants as H
@@ -56,7 +56,7 @@ before-later s at zero = refl
 before-later s at (suc k) = place-later s at k
 
 spot-at : (s : List ℕ) (place index at before k left : ℕ) → k < left → place_from s at k ≤ place → place < unit_end s (place_from s at k)
-    → spot_from s place index at before left ≡ Unit (record { index = index + k; at = place_from s at k; before = before_from s at before k })
+    → spot_from s place index at before left ≡ Some (record { index = index + k; at = place_from s at k; before = before_from s at before k })
 unfolding spot_from place_from
 spot-at s place index at before k zero l low high = absurd (omega arith)
 spot-at s place index at before zero (suc left) l low high =
@@ -177,7 +177,7 @@ module _ (day : Day) (s : List ℕ) (r : Refusal) where
   unfolding spot_of
   spot-found w l = simp (w, le-leb L.group_length r.place l)
 
-  named-at : (i : ℕ) (fault : Fault) → r.why ≡ why_of fault → spot_of s r.place ≡ Unit (record { index = 0 + i; at = unit_place s i; before = unit_place s (i - 1) })
+  named-at : (i : ℕ) (fault : Fault) → r.why ≡ why_of fault → spot_of s r.place ≡ Some (record { index = 0 + i; at = unit_place s i; before = unit_place s (i - 1) })
       → r.place ≡ unit_place s i + fault_place fault → number_at_hand s (unit_place s i) ≡ true
       → named_of day s r
       ≡ record {
@@ -198,7 +198,7 @@ module _ (day : Day) (s : List ℕ) (r : Refusal) where
       let low : at ≤ r.place = omega (arith, f.place) in
       let within : r.place < unit_end s at = omega (arith, f.place, place_inside s at f.least _ fault f.faulty) in
       let behind : L.group_length ≤ r.place = omega (arith, place-from s L.group_length i) in
-      let spot : spot_of s r.place ≡ Unit (record { index = 0 + i; at = at; before = unit_place s (i - 1) }) =
+      let spot : spot_of s r.place ≡ Some (record { index = 0 + i; at = at; before = unit_place s (i - 1) }) =
       spot-found whole behind ∙ spot-at s r.place 0 L.group_length L.group_length i (L.group_at s 0).count f.counted low within ∙ rw (before-one i) in
       record {
         index = i;
@@ -209,7 +209,7 @@ module _ (day : Day) (s : List ℕ) (r : Refusal) where
         why = why;
         place = f.place;
         field = field-at s at fault;
-        apart = λ w. ends-apart s at f.least _ (f.faulty ∙ ap Faulty w);
+        apart = λ w. ends-apart s at f.least _ (f.faulty ∙ ap Err w);
         named = named-at i fault why spot f.place (number-at-hand s at f.head);
       }
 

@@ -11,12 +11,12 @@ use Rattle.numbers.proofs.Choices.{and_both}
 use Rattle.records.specs.Layouts.{group_length, group_at, longest_unit}
 use Rattle.records.specs.Reading.{unit_end}
 use Rattle.records.proofs.UnitHeads.{unit-past, unit-most}
-use Rattle.finding.specs.declared.spot.Spot.{Spot}
-use Rattle.finding.specs.declared.spot.Spot.TheVariants.{Front, Unit}
+use Rattle.std.specs.Prelude.{Option, Some, None}
+use Rattle.finding.specs.declared.spot.UnitSpot.{UnitSpot}
 use Rattle.finding.specs.Spots.{group_whole, spot_from, spot_of}
 use Rattle.finding.specs.Inner.{Spotted}
 
-abbrev pub whole : List ℕ → ℕ → ℕ → Spot
+abbrev pub whole : List ℕ → ℕ → ℕ → Option UnitSpot
 whole s place count = spot_from s place 0 group_length group_length count
 
 -- a walk that passed so many unit records stands at the next
@@ -49,13 +49,13 @@ module _ (s : List ℕ) (place count : ℕ) where
           back = omega (arith, unit-past s at);
         }
 
-    pub found : index < count → place < unit_end s at → whole s place count ≡ Unit (record { index = index; at = at; before = before })
+    pub found : index < count → place < unit_end s at → whole s place count ≡ Some (record { index = index; at = at; before = before })
     unfolding spot_from
     found h l =
         let e : whole s place count ≡ spot_from s place index at before (suc (count - (index + 1))) = w.so ∙ ap (spot_from s place index at before) (one h) in
         e ∙ rw (lt-ltb place (unit_end s at) l)
 
-    pub none : count ≤ index → whole s place count ≡ Front
+    pub none : count ≤ index → whole s place count ≡ None
     unfolding spot_from
     none h =
         let e : count - index ≡ 0 = omega arith in
@@ -70,20 +70,20 @@ module _ (s : List ℕ) (place : ℕ) where
   unfolding spot_of group_at
   inside g h = simp (g, le-leb group_length place h)
 
-  pub no-group : group_whole s ≡ false → spot_of s place ≡ Front
+  pub no-group : group_whole s ≡ false → spot_of s place ≡ None
   unfolding spot_of
   no-group g = simp g
 
-  pub in-front : group_whole s ≡ true → place < group_length → spot_of s place ≡ Front
+  pub in-front : group_whole s ≡ true → place < group_length → spot_of s place ≡ None
   unfolding spot_of
   in-front g h = simp (g, lt-leb group_length place h)
 
   -- the front record begins at 0
-  pub front : spot_of s place ≡ Front → Spotted s place Front
+  pub front : spot_of s place ≡ None → Spotted s place None
   front e = record { is = rw e; within = omega arith; near = omega arith; before = omega arith }
 
   -- a unit record begins near, as a group record counts no more than a byte can
   pub unit : (count before at index : ℕ) → count < 256 → index < count → Walking s place count before at index
-      → spot_of s place ≡ Unit (record { index = index; at = at; before = before }) → Spotted s place (Unit (record { index = index; at = at; before = before }))
+      → spot_of s place ≡ Some (record { index = index; at = at; before = before }) → Spotted s place (Some (record { index = index; at = at; before = before }))
   unit count before at index few h w e =
       record { is = rw e; within = w.low; near = omega (arith, w.near); before = omega (arith, w.near, w.back) }

@@ -1,4 +1,5 @@
 -- What a refusal names.
+pub mod Near
 pub mod Spots
 pub mod Naming
 pub mod Plants

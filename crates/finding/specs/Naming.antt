@@ -1,5 +1,5 @@
 -- What a refusal names, from the day before the offer, the bytes offered, and its number and place.
-use Rattle.std.specs.Prelude.{ℕ, ◌+◌, ◌-◌, Bool, ◌&&◌, ◌||◌, List, leb, ltb, length}
+use Rattle.std.specs.Prelude.{ℕ, ◌+◌, ◌-◌, Bool, ◌&&◌, ◌||◌, List, Option, Some, None, leb, ltb, length}
 use Rattle.std.specs.Int.Signed.{le_z}
 use Rattle.numbers.specs.Bytes.{byte_at}
 use Rattle.numbers.specs.Choice.{pick}
@@ -15,8 +15,6 @@ use Rattle.walk.specs.declared.table.Role.{Role}
 use Rattle.walk.specs.declared.table.Role.TheVariants.{Opens, Block, Closes}
 use Rattle.walk.specs.Table.{may_come, role_of}
 use Rattle.day.specs.declared.value.Day.{Day}
-use Rattle.finding.specs.declared.spot.Spot.{Spot}
-use Rattle.finding.specs.declared.spot.Spot.TheVariants.{Front, Unit}
 use Rattle.finding.specs.declared.spot.UnitSpot.{UnitSpot}
 use Rattle.finding.specs.declared.named.Subject.{Subject}
 use Rattle.finding.specs.declared.named.Subject.TheVariants as S
@@ -63,9 +61,9 @@ abbrev pub unit_subject : List ℕ → UnitSpot → Subject
 unit_subject s u =
     pick (number_at_hand s u.at) (S.Unit (key_in s) (L.value_at s u.at L.unit_number)) (S.UnitAt (key_in s) u.index)
 
-abbrev pub subject_of : List ℕ → Spot → Subject
-subject_of s Front = front_subject s
-subject_of s (Unit u) = unit_subject s u
+abbrev pub subject_of : List ℕ → Option UnitSpot → Subject
+subject_of s None = front_subject s
+subject_of s (Some u) = unit_subject s u
 
 -- ---- the field, and the value read there
 -- the layout of a unit's field, and of any

@@ -2,5 +2,5 @@
 #![tactic(auto)]
 
 pub mod named;
-mod reading;
+mod record;
 mod spot;

@@ -1,4 +1,5 @@
 -- What an accepted group has passed, read back from the reply test by test.
+use Rattle.std.specs.Prelude.{Ok}
 use Prim.Native.Nat.{ℕ, ◌<◌}
 use mathlib.Core.Path.{◌≡◌, refl}
 use mathlib.Core.Bool.{true}
@@ -19,7 +20,6 @@ use Rattle.terms.specs.Reply.{is}
 use Rattle.terms.specs.Refusals.{first_fault}
 use Rattle.terms.specs.Checks.{is_flag, in_range, most_units, unit_count, margin_checks, amount_checks}
 use Rattle.terms.specs.declared.quantity.Margins.{Margins}
-use Rattle.terms.specs.declared.refusal.Checked.TheVariants.{Fine}
 use Rattle.terms.specs.declared.refusal.Fault.TheVariants as F
 use Rattle.terms.proofs.Classes.{flag-known}
 use Rattle.terms.proofs.Passing.{passes, range-within}
@@ -30,7 +30,7 @@ use Rattle.group.specs.Accepted.{Level, Sound, Accepted}
 use Rattle.group.specs.Inner.{Judged, Bearable}
 use Rattle.group.proofs.Judging.{n1-bearable}
 
-unit-sound : (class : ℕ) (n0 pc : ℤ) (m : Margins) → unit_check class n0 pc m ≡ Fine → Sound class n0 pc m
+unit-sound : (class : ℕ) (n0 pc : ℤ) (m : Margins) → unit_check class n0 pc m ≡ Ok tt → Sound class n0 pc m
 unfolding unit_check amount_checks margin_checks
 unit-sound class n0 pc m e =
     let a = passes (is_flag class) F.Class _ e in
@@ -44,22 +44,21 @@ unit-sound class n0 pc m e =
       pc-small = range-within pc c.0;
       down-small = range-within m.step_down d.0;
       up_small = range-within m.step_up f.0;
-      ordered = (passes (le_z m.step_down m.step_up) F.Crossed Fine f.1).0;
+      ordered = (passes (le_z m.step_down m.step_up) F.Crossed (Ok tt) f.1).0;
     }
 
 pub position-within : (g : Group) → Accepted g → Within 64000000 (position g)
 position-within g a = sum64-within g.pc (omega (arith, a.level.positions, a.few)) (λ i. (a.sound i).pc-small)
 
--- such a group, with a column as long as it
-pub judged-by : (g : Group) {first : List ℤ} → Accepted g → length first ≡ units g → Judged (position g) g.n0 g.step_down g.step_up g.class first
-judged-by g a firsts =
+-- such a group can be judged
+pub judged-by : (g : Group) → Accepted g → Judged (position g) g.n0 g.step_down g.step_up g.class
+judged-by g a =
     record {
       few = a.few;
       downs = a.level.downs;
       ups = a.level.ups;
       classes = a.level.classes;
       known = λ i. (a.sound i).known;
-      firsts = firsts;
       position-small = position-within g a;
       n0-small = λ i. (a.sound i).n0-small;
       down-small = λ i. (a.sound i).down-small;
@@ -81,7 +80,8 @@ even g first second third e =
     let u = and_both (eqb (length g.step_up) (units g)) _ d.1 in
     let c = and_both (eqb (length g.class) (units g)) _ u.1 in
     let x = and_both (eqb (length first) (units g)) _ c.1 in
-    let y = and_both (eqb (length second) (units g)) (eqb (length third) (units g)) x.1 in
+    let y = and_both (eqb (length second) (units g)) _ x.1 in
+    let z = and_both (eqb (length third) (units g)) _ y.1 in
     record {
       level =
           record {
@@ -92,8 +92,14 @@ even g first second third e =
           };
       firsts = eqb-true _ _ x.0;
       seconds = eqb-true _ _ y.0;
-      thirds = eqb-true _ _ y.1;
+      thirds = eqb-true _ _ z.0;
     }
+
+pub written-lengths : (g : Group) (first second third : List ℤ) → one_length g first second third ≡ true
+    → (length first ≡ units g) × ((length second ≡ units g) × (length third ≡ units g))
+written-lengths g first second third e =
+    let v = even g first second third e in
+    (v.firsts, (v.seconds, v.thirds))
 
 pub level-of : (g : Group) (first second third : List ℤ) → one_length g first second third ≡ true → Level g
 level-of g first second third e = (even g first second third e).level
@@ -126,11 +132,9 @@ module _ (g : Group) (first second third : List ℤ) {n : ℕ} (lengths-one : on
           )
           nothing-sound
 
-  pub judged-of : Judged (position g) g.n0 g.step_down g.step_up g.class first × ((length second ≡ units g) × (length third ≡ units g))
-  judged-of =
-      let v = even g first second third lengths-one in
-      (judged-by g accepted-by v.firsts, (v.seconds, v.thirds))
+  pub judged-of : Judged (position g) g.n0 g.step_down g.step_up g.class
+  judged-of = judged-by g accepted-by
 
 -- n1 of such a group is a column that can be cut, and bears its excess
 pub bearable-of : (g : Group) → Accepted g → Bearable (excess g) (n1 g) g.class
-bearable-of g a = n1-bearable (judged-by g {first = g.n0} a refl)
+bearable-of g a = n1-bearable (judged-by g a)

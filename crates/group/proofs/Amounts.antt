@@ -1,5 +1,5 @@
--- Nominations and margins pass exactly where no unit has a fault; what a unit without a fault has passed; and how its faults are counted.
-use Prim.Native.Nat.{ℕ, ◌+◌, ◌≤◌, ◌<◌}
+-- Nominations and margins pass exactly where no unit has a fault, and what a unit without a fault has passed.
+use Prim.Native.Nat.{ℕ, ◌+◌, ◌<◌}
 use mathlib.Core.Path.{◌≡◌, refl, ap, ◌∙◌}
 use mathlib.Core.Bool.{Bool, true, false, not}
 use mathlib.Core.List.{List}
@@ -8,13 +8,12 @@ use borrow.Author.Tests.{eqb-true}
 use lib.Dec.{eqb}
 use lib.IntN.{ℤ, pos, neg_ℤ}
 use lib.ListN.{length}
-use lib.Signed.{le_z, lt_z}
-use mir.Val.{bool_byte}
+use lib.Signed.{le_z}
 use Rattle.numbers.specs.Range.{Within}
 use Rattle.numbers.specs.Column.{at}
 use Rattle.numbers.specs.Sum.{sum_to, bit}
-use Rattle.numbers.proofs.Integers.{zarith, t-le, by-test}
-use Rattle.numbers.proofs.Sums.{bit-one, sum_to-cong, sum_to-mono, sum_to-none, sum_to-one}
+use Rattle.numbers.proofs.Integers.{zarith, t-le}
+use Rattle.numbers.proofs.Sums.{sum_to-cong, sum_to-mono, sum_to-none, sum_to-one}
 use Rattle.terms.specs.Checks.{in_range}
 use Rattle.terms.specs.declared.quantity.Margins.{Margins}
 use Rattle.group.specs.Group.{margins_at}
@@ -59,27 +58,6 @@ none-faulty n0 m h d u o =
       none (in_range m.step_up) (in-range m.step_up u),
       none (le_z m.step_down m.step_up) o,
     )
-
--- a test counts at most one fault; and `step_up < step_down` is the test of the margins turned
-pub at_most_one : {r : ℕ} (z : ℤ) → r ≡ bit (not (in_range z)) → r ≤ 1
-at_most_one z e = rw e (bit-one (not (in_range z)))
-
-crossed : (down up : ℤ) → bool_byte (lt_z up down) ≡ bit (not (le_z down up))
-crossed down up =
-    by-test (lt_z up down) (λ t. bool_byte t ≡ bit (not (le_z down up)))
-    (λ h.
-    let k : le_z down up ≡ false = omega zarith in
-    simp k)
-    (λ h.
-    let k : le_z down up ≡ true = omega zarith in
-    simp k)
-
-pub counted : {a b d : ℕ} (n0 : ℤ) (m : Margins) → a ≡ bit (not (in_range n0)) → b ≡ bit (not (in_range m.step_down)) → d ≡ bit (not (in_range m.step_up))
-    → (a + b + d + bool_byte (lt_z m.step_up m.step_down) ≡ faults_of n0 m) × (a + b + d + bool_byte (lt_z m.step_up m.step_down) ≤ 4)
-unfolding faults_of
-counted n0 m p q r =
-    let k = crossed m.step_down m.step_up in
-    (omega arith, omega (arith, at_most_one n0 p, at_most_one m.step_down q, at_most_one m.step_up r, bit-one (not (le_z m.step_down m.step_up))))
 
 module _ (n0 step_down step_up : List ℤ) where
   -- the faults of the unit of an index

@@ -1,18 +1,13 @@
 -- The band's ends, by cases on the sign of P: 0 lies in the band, and the ends are no larger than P.
 use Prim.Native.Nat.{ℕ}
-use mathlib.Core.Path.{◌≡◌, refl}
-use mathlib.Core.Bool.{true, false}
+use mathlib.Core.Path.{◌≡◌}
+use mathlib.Core.Bool.{true}
 use lib.IntN.{ℤ, pos, neg_ℤ}
 use lib.Signed.{lt_z, le_z}
 use Rattle.numbers.specs.Range.{Within}
-use Rattle.numbers.specs.Choice.{pick}
-use Rattle.numbers.proofs.Integers.{zarith, neg, one_side}
+use Rattle.numbers.proofs.Integers.{zarith, neg}
 use Rattle.numbers.proofs.Choices.{pick_ind}
 use Rattle.group.specs.Steps.{band_of}
-
--- -P is the low end where it is not above 0
-pub low_end : (p : ℤ) → lt_z (pos 0) (neg_ℤ p) ≡ false → neg_ℤ p ≡ pick (lt_z (pos 0) p) (neg_ℤ p) (pos 0)
-low_end p h = pick_ind (lt_z (pos 0) p) (neg_ℤ p) (pos 0) (λ z. neg_ℤ p ≡ z) (λ e. refl) (λ e. omega (zarith, neg p, one_side p))
 
 module _ (p : ℤ) where
   pub low-zero : le_z (band_of p).low (pos 0) ≡ true

@@ -28,7 +28,7 @@ sums_same : {p q : ℤ} {b d : Band} {s1 t1 e f s2 t2 s3 t3 : ℤ}
     → p ≡ q → b ≡ d → s1 ≡ t1 → e ≡ f → s2 ≡ t2 → s3 ≡ t3 → sums_by p b s1 e s2 s3 ≡ sums_by q d t1 f t2 t3
 sums_same h i j k l m = cc
 
-module _ {p : ℤ} {n0 step_down step_up : List ℤ} {class : List ℕ} {first : List ℤ} (h : Judged p n0 step_down step_up class first) where
+module _ {p : ℤ} {n0 step_down step_up : List ℤ} {class : List ℕ} (h : Judged p n0 step_down step_up class) where
   abbrev x1 : List ℤ
   x1 = step1_all n0 step_down step_up
 

@@ -7,6 +7,7 @@ pub mod Running
 pub mod Ranges
 pub mod Uncut
 pub mod Explaining
+pub mod Turning
 pub mod Through
 pub mod Losses
 pub mod Landing

@@ -31,16 +31,6 @@ clamp-ind P n x y s t p q r v z =
     (λ b. by-test t (λ k. P (pick k y n)) (λ k. r b k) (λ k. v b k))
     (λ b. z a b))
 
--- the same choice with each side made by itself
-pub by-sides : (n x y : ℤ) (s t : Bool) → pick (lt_z (pos 0) n) (pick s x n) (pick (lt_z n (pos 0)) (pick t y n) n) ≡ pick (lt_z (pos 0) n && s) x (pick (lt_z n (pos 0) && t) y n)
-by-sides n x y s t =
-    clamp-ind (λ z. pick (lt_z (pos 0) n) (pick s x n) (pick (lt_z n (pos 0)) (pick t y n) n) ≡ z) n x y s t
-    (λ a b. simp (a, b))
-    (λ a b. simp (a, b))
-    (λ a b. simp (a, b, asym n (pos 0) a))
-    (λ a b. simp (a, b, asym n (pos 0) a))
-    (λ a b. simp (a, b))
-
 -- z is at zero, or within the margins
 abbrev pub Inside : Margins → ℤ → Type 0
 Inside m z = (z ≡ pos 0) ⊎ ((le_z m.step_down z ≡ true) × (le_z z m.step_up ≡ true))

@@ -62,9 +62,6 @@ module _ (n step_down step_up : List ℤ) where
     step3-small = column-within 1000000 third_at (length n) (λ i. step3-within 1000000 (at n i) (margins_at step_down step_up i) (small i) (down-small i) (up_small i))
 
 module _ {n step_down step_up out : List ℤ} (h : Aligned n step_down step_up out) where
-  pub first_small : (i : ℕ) → Within 1000000 (first_at n step_down step_up i)
-  first_small i = step1-within 1000000 (at n i) (margins_at step_down step_up i) (h.small i) (h.down-small i) (h.up_small i)
-
   pub third-small : (i : ℕ) → Within 1000000 (third_at n step_down step_up i)
   third-small i = step3-within 1000000 (at n i) (margins_at step_down step_up i) (h.small i) (h.down-small i) (h.up_small i)
 

@@ -1,14 +1,6 @@
--- Loops that fill a column place by place and keep the sum of what they fill in 32 bits, at the start, after a turn and at the end.
-use Prim.Native.Nat.{ℕ, zero, suc, ◌+◌, ◌*◌, ◌≤◌, ◌<◌}
-use mathlib.Core.Path.{◌≡◌, refl}
-use mathlib.Core.List.{List}
+-- Loops that fill a column place by place and keep the sum of what they fill, at the start, after a turn and at the end.
+use Rattle.std.proofs.Common.{◌≡◌, ℕ, zero, suc, ◌+◌, ◌*◌, ◌≤◌, ◌<◌, List, length, set, ℤ, pos, ◌+ℤ◌, refl, arith, w32, SFits}
 use native.Mathlib.Numerals.{add-one}
-use native.Mathlib.Omega.{arith}
-use lib.IntN.{ℤ, pos, ◌+ℤ◌}
-use lib.ListN.{length, set}
-use mir.Syntax.{w32}
-use mir.Val.{SFits, to_z, of_z}
-use mir.Facts.{to_z-of_z}
 use Rattle.numbers.specs.Range.{Within}
 use Rattle.numbers.specs.Column.{column}
 use Rattle.numbers.specs.Sum.{sum_z}
@@ -16,12 +8,12 @@ use Rattle.numbers.proofs.Integers.{zarith, plus}
 use Rattle.numbers.proofs.Filling.{Filled, filled-start, filled-turn, filled-end}
 use Rattle.numbers.proofs.Sums.{sum_z-column}
 
--- the first i places of a lent column are filled by f, and s is the sum of them, as 32 bits
-pub record Run (f : ℕ → ℤ) (n : ℕ) (l m : List ℤ) (s i : ℕ) : Type 0 where
+-- the first i places of a lent column are filled by f, and s is the sum of them
+pub record Run (f : ℕ → ℤ) (n : ℕ) (l m : List ℤ) (s : ℤ) (i : ℕ) : Type 0 where
   pub places : Filled f n l m i
-  pub sum : s ≡ of_z w32 (sum_z (column i f))
+  pub sum : s ≡ sum_z (column i f)
 
-pub run-start : (f : ℕ → ℤ) (n : ℕ) (l : List ℤ) → Run f n l l 0 0
+pub run-start : (f : ℕ → ℤ) (n : ℕ) (l : List ℤ) → Run f n l l (pos 0) 0
 unfolding sum_z column
 run-start f n l = record { places = filled-start f n l; sum = refl }
 
@@ -31,20 +23,14 @@ module _ (f : ℕ → ℤ) (small : (k : ℕ) → Within 1000000 (f k)) where
   run-within zero = omega zarith
   run-within (suc i) = rw (sum_z-column f i) (omega (zarith, run-within i, small i, plus (sum_z (column i f)) (f i)))
 
-  run_fits : (i : ℕ) → i ≤ 64 → SFits w32 (sum_z (column i f))
-  run_fits i l = omega (zarith, run-within i)
+module _ {f : ℕ → ℤ} {n : ℕ} {l m : List ℤ} {s : ℤ} {i : ℕ} (small : (k : ℕ) → Within 1000000 (f k)) (few : n ≤ 64) (h : Run f n l m s i) where
+  pub run-adds : {v : ℤ} → v ≡ f i → i < n → SFits w32 (s +ℤ v)
+  run-adds e t = rw (h.sum, e) (omega (zarith, run-within f small i, small i, plus (sum_z (column i f)) (f i)))
 
-module _ {f : ℕ → ℤ} {n : ℕ} {l m : List ℤ} {s i : ℕ} (small : (k : ℕ) → Within 1000000 (f k)) (few : n ≤ 64) (h : Run f n l m s i) where
-  run-back : to_z w32 s ≡ sum_z (column i f)
-  run-back = rw h.sum (to_z-of_z (run_fits f small i (omega (arith, h.places.some))))
+  pub run-turn : {v : ℤ} → v ≡ f i → i < n → length l ≡ n → Run f n l (set m i v) (s +ℤ v) (i + 1)
+  run-turn e t lent = record { places = filled-turn h.places lent (pos 0) e t; sum = rw (h.sum, e, add-one i, sum_z-column f i) }
 
-  pub run-adds : {v : ℤ} → v ≡ f i → i < n → SFits w32 (to_z w32 s +ℤ v)
-  run-adds e t = rw (run-back, e) (omega (zarith, run-within f small i, small i, plus (sum_z (column i f)) (f i)))
-
-  pub run-turn : {v : ℤ} → v ≡ f i → i < n → length l ≡ n → Run f n l (set m i v) (of_z w32 (to_z w32 s +ℤ v)) (i + 1)
-  run-turn e t lent = record { places = filled-turn h.places lent (pos 0) e t; sum = rw (run-back, e, add-one i, sum_z-column f i) }
-
-  pub run_end : n ≤ i → length l ≡ n → (to_z w32 s ≡ sum_z (column n f)) × (m ≡ column n f)
+  pub run_end : n ≤ i → length l ≡ n → (s ≡ sum_z (column n f)) × (m ≡ column n f)
   run_end t lent =
       let e : i ≡ n = omega (arith, h.places.some) in
-      (rw e at run-back, filled-end h.places lent t)
+      (rw e at h.sum, filled-end h.places lent t)

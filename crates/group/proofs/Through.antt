@@ -5,6 +5,7 @@ use mathlib.Core.Bool.{Bool, true, false}
 use mathlib.Core.List.{List}
 use native.Mathlib.Omega.{arith}
 use borrow.Author.Tests.{leb-true, leb-false}
+use Rattle.std.proofs.Common.{T, subst}
 use lib.Dec.{leb}
 use lib.IntN.{ℤ, nat_abs}
 use lib.ListN.{length, get_or}
@@ -38,6 +39,21 @@ sizes-own d k n1 class =
           pick_ind (standing k (get_or class i 0)) (size_in d (at n1 i)) 0 (λ (x : ℕ). 0 < x → size_in d (at n1 i) ≡ x)
           (λ _ _. refl) (λ _ q. absurd (omega arith)) (omega (arith, size-at d k n1 class i)) ∙ sym (size-at d k n1 class i);
     }
+
+apart-tests : ◌≡◌ {A = Bool} true false → ⊥
+apart-tests e = absurd (subst T e tt)
+
+-- who bears a part tells whether the units not enabled lose all
+apart : NotEnabled ≡ Enabled → ⊥
+apart e = apart-tests (ap (λ (k : Standing). standing k 0) e)
+
+borne-by-enabled : (all : Bool) → pick all Enabled NotEnabled ≡ Enabled → all ≡ true
+borne-by-enabled true e = refl
+borne-by-enabled false e = absurd (apart e)
+
+borne-by-others : (all : Bool) → pick all Enabled NotEnabled ≡ NotEnabled → all ≡ false
+borne-by-others true e = absurd (apart (sym e))
+borne-by-others false e = refl
 
 module _ {e : ℤ} {n1 : List ℤ} {class : List ℕ} (h : Bearable e n1 class) where
   -- the sizes of those that bear a part, and the total of those not enabled
@@ -79,12 +95,16 @@ module _ {e : ℤ} {n1 : List ℤ} {class : List ℕ} (h : Bearable e n1 class) 
   unfolding losses_of
   losses-are all w = column-ext _ _ (length n1) (λ i _. loss-is all w i)
 
-  module _ {d : Direction} {c t part : ℕ} {all : Bool} {sizes : List ℕ} (de : d ≡ direction_of e) (ce : c ≡ nat_abs e) (s : SharedOut d c n1 class all t part sizes) where
+  module _ {d : Direction} {c t part : ℕ} {k : Standing} {sizes : List ℕ} (de : d ≡ direction_of e) (ce : c ≡ nat_abs e) (s : SharedOut d c n1 class k t part sizes) where
+    -- those not enabled lose all
+    abbrev all : Bool
+    all = leb (sum (sizes_of d NotEnabled n1 class)) c
+
     whole_is : all ≡ leb first (nat_abs e)
-    whole_is = rw (← de, ← ce) s.whole
+    whole_is = rw (← de, ← ce) refl
 
     sizes-are : sizes ≡ bearers all
-    sizes-are = rw (← de) s.borne
+    sizes-are = rw (← de) (s.borne ∙ ap (λ (j : Standing). sizes_of d j n1 class) s.whole)
 
     part-is : part ≡ nat_abs e - pick all first 0
     part-is = rw (← de, ← ce) s.rest
@@ -99,7 +119,7 @@ module _ {e : ℤ} {n1 : List ℤ} {class : List ℕ} (h : Bearable e n1 class) 
         })
 
     pub through-own : Own d n1 sizes
-    through-own = rw s.borne (sizes-own d (pick all Enabled NotEnabled) n1 class)
+    through-own = rw s.borne (sizes-own d k n1 class)
 
     module _ {cuts : List ℕ} (cut : cuts ≡ cuts_of sizes part) where
       cuts_are : cuts ≡ cuts_of (bearers all) (nat_abs e - pick all first 0)
@@ -110,12 +130,13 @@ module _ {e : ℤ} {n1 : List ℤ} {class : List ℕ} (h : Bearable e n1 class) 
           ap length cuts_are ∙ length-cuts (bearers all) (nat_abs e - pick all first 0) ∙ sizes-length (direction_of e) (pick all Enabled NotEnabled) n1 class
 
       lost-is : lost d all cuts ≡ losses_of e n1 class
-      lost-is = rw (de, cuts_are) (losses-are all whole_is)
+      lost-is =
+          ap (λ (x : Direction). lost x all cuts) de ∙ ap (lost (direction_of e) all) cuts_are ∙ losses-are all whole_is
 
-      pub through-all : all ≡ true → lost d true cuts ≡ losses_of e n1 class
-      through-all q = rw q at lost-is
+      pub through-all : k ≡ Enabled → lost d true cuts ≡ losses_of e n1 class
+      through-all q = rw (borne-by-enabled all (sym s.whole ∙ q)) at lost-is
 
       -- where they do not, the cuts are all that is lost
-      pub through-part : all ≡ false → cuts ≡ losses_of e n1 class
+      pub through-part : k ≡ NotEnabled → cuts ≡ losses_of e n1 class
       unfolding loss_of
-      through-part q = column-self 0 cuts ∙ rw through-places (rw q at lost-is)
+      through-part q = column-self 0 cuts ∙ rw through-places (rw (borne-by-others all (sym s.whole ∙ q)) at lost-is)

@@ -9,6 +9,7 @@ use Rattle.terms.specs.Quantities.{standing, known_class, size_in}
 use Rattle.terms.specs.Checks.{most_units, in_range}
 use Rattle.terms.specs.declared.quantity.Margins.{Margins}
 use Rattle.terms.specs.declared.quantity.Direction.{Direction}
+use Rattle.terms.specs.declared.quantity.Standing.{Standing}
 use Rattle.terms.specs.declared.quantity.Standing.TheVariants.{NotEnabled, Enabled}
 use Rattle.group.specs.Steps.{nearer_by, direction_of, excess_of, band_of}
 use Rattle.group.specs.Group.{margins_at, sizes_of, cuts_for, step1_all, step2_all, step3_all}
@@ -33,12 +34,12 @@ pub record Classed (n1 : List ℤ) (class : List ℕ) : Type 0 where
   pub classes : length class ≡ length n1
   pub known : (i : ℕ) → known_class (get_or class i 0) ≡ true
 
--- of c kWh over a direction: whether the units not enabled lose all; the sizes of those that bear a part, their total, and what they bear
-pub record SharedOut (d : Direction) (c : ℕ) (n1 : List ℤ) (class : List ℕ) (all : Bool) (t part : ℕ) (sizes : List ℕ) : Type 0 where
-  pub whole : all ≡ leb (sum (sizes_of d NotEnabled n1 class)) c
-  pub borne : sizes ≡ sizes_of d (pick all Enabled NotEnabled) n1 class
+-- of c kWh over a direction: who bears a part, the enabled where those not enabled lose all; the sizes of those that do, their total, and what they bear
+pub record SharedOut (d : Direction) (c : ℕ) (n1 : List ℤ) (class : List ℕ) (bearers : Standing) (t part : ℕ) (sizes : List ℕ) : Type 0 where
+  pub whole : bearers ≡ pick (leb (sum (sizes_of d NotEnabled n1 class)) c) Enabled NotEnabled
+  pub borne : sizes ≡ sizes_of d bearers n1 class
   pub total : t ≡ sum sizes
-  pub rest : part ≡ c - pick all (sum (sizes_of d NotEnabled n1 class)) 0
+  pub rest : part ≡ c - pick (leb (sum (sizes_of d NotEnabled n1 class)) c) (sum (sizes_of d NotEnabled n1 class)) 0
 
 -- what a unit loses: its cut, or all of it where the units not enabled lose all and it is one of them
 unfoldable pub loss_of : Direction → Bool → ℕ → ℤ → ℕ → ℕ
@@ -70,14 +71,13 @@ pub record Lost (n1 : List ℤ) (losses : List ℕ) : Type 0 where
   pub losses-places : length losses ≡ length n1
   pub losses-small : (i : ℕ) → get_or losses i 0 ≤ 1000000
 
--- a group of position p that was not refused, with a column for step 1
-pub record Judged (p : ℤ) (n0 step_down step_up : List ℤ) (class : List ℕ) (first : List ℤ) : Type 0 where
+-- a group of position p that was not refused
+pub record Judged (p : ℤ) (n0 step_down step_up : List ℤ) (class : List ℕ) : Type 0 where
   pub few : length n0 ≤ 64
   pub downs : length step_down ≡ length n0
   pub ups : length step_up ≡ length n0
   pub classes : length class ≡ length n0
   pub known : (i : ℕ) → known_class (get_or class i 0) ≡ true
-  pub firsts : length first ≡ length n0
   pub position-small : Within 64000000 p
   pub n0-small : AllWithin 1000000 n0
   pub down-small : AllWithin 1000000 step_down

@@ -12,20 +12,22 @@ pub struct Band {
 }
 
 impl Band {
-    // From the smaller of 0 and -P to the larger.
+    // From the smaller of 0 and -P to the larger. The range of P stands in the clause: a Position read from bytes has none yet, and a `Group` would ask for columns too.
+    #[tactic(auto, unfolding(crate::specs::Steps::band_of))]
     pub fn of(p: Position) -> Band
         requires { Within 64000000 p.0 }
         ensures { result ≡ band_of p.0 }
     {
         let sold = p.nominated();
         let end = sold.0;
-        if 0 < end {
-            return Band { low: 0, high: end };
+        Band {
+            low: end.min(0),
+            high: end.max(0),
         }
-        Band { low: end, high: 0 }
     }
 
     // How far a sum lies beyond the band, below zero where it lies under it.
+    #[tactic(auto, unfolding(crate::specs::Steps::excess_of))]
     pub fn excess(self, s: i32) -> i32
         requires { Within 64000000 self.low × (Within 64000000 self.high × Within 64000000 s) }
         ensures { result ≡ excess_of self s }
@@ -42,10 +44,7 @@ impl Band {
     pub fn outside(self, s: i32) -> bool
         ensures { result ≡ is_outside self s }
     {
-        if self.high < s {
-            return true;
-        }
-        s < self.low
+        self.high < s || s < self.low
     }
 }
 
@@ -59,7 +58,7 @@ pub fn direction(e: i32) -> Direction
     Direction::Injections
 }
 
-// 1 where injections are cut, 2 where withdrawals are.
+// 1 where injections are cut, 2 where withdrawals are. By two tests: a match of `cmp` was tried, and its branches are guessed wrong; tests/bench.
 fn cut_verdict(e: i32) -> u8
     ensures { (result ≡ cut_verdict e) × (result ≤ 2) }
 {
@@ -72,6 +71,7 @@ fn cut_verdict(e: i32) -> u8
     0
 }
 
+#[tactic(auto, unfolding(crate::specs::Steps::verdict_of))]
 pub fn verdict(b: Band, e: i32, s3: i32) -> u8
     ensures { result ≡ verdict_of b e s3 }
 {
@@ -82,7 +82,7 @@ pub fn verdict(b: Band, e: i32, s3: i32) -> u8
     cut
 }
 
-// What the balance unit takes, positive for injection.
+// What the balance unit takes, positive for injection. The ranges stand in the clause, as in `Band::of`.
 pub fn balance(p: Position, s3: Nomination) -> Nomination
     requires { Within 64000000 p.0 × Within 64000000 s3.0 }
     ensures { result.0 ≡ balance_of p.0 s3.0 }

@@ -1,39 +1,19 @@
 // The steps of one unit.
-ghost use Rattle.std.specs.Prelude.{◌≡◌, ◌≤◌, not, pos};
-ghost use Rattle.std.specs.Int.Signed.{lt_z};
+ghost use Rattle.std.specs.Prelude.{◌≡◌, ◌≤◌, not};
 ghost use Rattle.numbers.specs.Choice.{pick, eq_z};
 ghost use Rattle.numbers.specs.Range.{Within};
 ghost use Rattle.group.specs.Steps.{step1_of, nearer_by, step3_of, zero_outside, reason_of};
 
 use terms::quantity::{Direction, Margins};
 
-// A quantity above zero gives way to one, below zero to another, and zero stays.
-fn by_sign(n: i32, above: i32, below: i32) -> i32
-    ensures { result ≡ pick (lt_z (pos 0) n) above (pick (lt_z n (pos 0)) below n) }
-{
-    let mut r = n;
-    if 0 < n {
-        r = above;
-    }
-    if n < 0 {
-        r = below;
-    }
-    r
-}
-
-// Step 1. Each choice is made by itself, so that a loop over units becomes vectors.
+// Step 1. Both ends are worked out before the choice, so that a loop over units becomes vectors. One function of the choice, for this and step 3, was tried: the `returns` of both stays open then, and here the check finds it.
 pub fn step1(n0: i32, m: Margins) -> i32
     ensures { result ≡ step1_of n0 m }
 {
-    let mut high = n0;
-    if m.step_up < n0 {
-        high = m.step_up;
-    }
-    let mut low = n0;
-    if n0 < m.step_down {
-        low = m.step_down;
-    }
-    by_sign(n0, high, low)
+    let above = n0.min(m.step_up);
+    let below = n0.max(m.step_down);
+    let side = if n0 < 0 { below } else { above };
+    if n0 == 0 { n0 } else { side }
 }
 
 // Step 2, once the unit's cut is known.
@@ -48,29 +28,21 @@ pub fn nearer(d: Direction, n1: i32, cut: u32) -> i32
     }
 }
 
-// Step 3, with its choices as step 1 has them.
+// Step 3, with its choice as step 1 has it.
 pub fn step3(n2: i32, m: Margins) -> i32
     ensures { result ≡ step3_of n2 m }
 {
-    let mut high = n2;
-    if n2 < m.step_down {
-        high = m.step_down;
-    }
-    let mut low = n2;
-    if m.step_up < n2 {
-        low = m.step_up;
-    }
-    by_sign(n2, high, low)
+    let above = n2.max(m.step_down);
+    let below = n2.min(m.step_up);
+    let side = if n2 < 0 { below } else { above };
+    if n2 == 0 { n2 } else { side }
 }
 
 // What a reason adds to the sum where it holds. Reasons have 32 bits, as the quantities beside them have, so that a loop over units becomes vectors.
 fn weight(holds: bool, w: u32) -> u32
     ensures { (result ≡ pick holds w 0) × (result ≤ w) }
 {
-    if holds {
-        return w;
-    }
-    0
+    if holds { w } else { 0 }
 }
 
 fn differ(a: i32, b: i32) -> bool
@@ -83,13 +55,7 @@ fn differ(a: i32, b: i32) -> bool
 fn zero_outside(n3: i32, m: Margins) -> bool
     ensures { result ≡ zero_outside n3 m }
 {
-    if n3 != 0 {
-        return false;
-    }
-    if 0 < m.step_down {
-        return true;
-    }
-    m.step_up < 0
+    n3 == 0 && (0 < m.step_down || m.step_up < 0)
 }
 
 // A unit's reason; taken is 1 where its nomination is implicit, and else 0.

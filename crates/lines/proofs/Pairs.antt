@@ -11,15 +11,17 @@ use lib.Seq.{take_at, drop-drop, drop-append-add, length-take-le}
 use Rattle.numbers.specs.Bytes.{laid_at}
 use Rattle.numbers.specs.Sum.{bit}
 use Rattle.numbers.specs.Decimal.{digit, decimal}
-use Rattle.numbers.proofs.Columns.{column-at, column-length}
+use Rattle.numbers.specs.Column.{column}
+use Rattle.numbers.proofs.Columns.{column-at}
 use Rattle.numbers.proofs.Laid.{length-laid, laid_more, laid_next, laid-before, laid-under}
+use Rattle.lines.specs.declared.table.TheConstants.{PAIRS}
 use Rattle.lines.specs.Inner.{Lays, pair_of, digit_pairs}
-use Rattle.numbers.proofs.Digits.{one-figure, more-figures, one-digit, so-many}
+use Rattle.numbers.proofs.Digits.{one-figure, more-figures, one-digit, so-many, no_more}
 
--- ---- the table
-pub pair-count : length digit_pairs ≡ 100
-unfolding digit_pairs
-pair-count = column-length pair_of 100
+-- ---- the table, number by number
+pub pairs_are : PAIRS ≡ digit_pairs
+unfolding digit_pairs column
+pairs_are = refl
 
 pub pair-at : (k : ℕ) → k < 100 → get_or digit_pairs k 0 ≡ pair_of k
 unfolding digit_pairs
@@ -86,6 +88,9 @@ few-count n h = go (dec_lt n 10) (dec_lt n 100) (dec_lt n 1000)
     go (no a) (yes b) c = rw (lt-ltb 9 n (omega arith), le-ltb 99 n (omega arith), le-ltb 999 n (omega arith)) (sym (so-many 0 18 n refl (omega arith) (omega arith)))
     go (no a) (no b) (yes c) = rw (lt-ltb 9 n (omega arith), lt-ltb 99 n (omega arith), le-ltb 999 n (omega arith)) (sym (so-many 1 17 n refl (omega arith) (omega arith)))
     go (no a) (no b) (no c) = rw (lt-ltb 9 n (omega arith), lt-ltb 99 n (omega arith), lt-ltb 999 n (omega arith)) (sym (so-many 2 16 n refl (omega arith) (omega arith)))
+
+pub few_digits : (n : ℕ) → n < 10000 → length (decimal n) ≤ 4
+few_digits n h = no_more 3 n h
 
 -- ---- the digits behind a byte
 -- the first two digits one byte further where there are four of them, the last two so that they end where the number does, and the byte

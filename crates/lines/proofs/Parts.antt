@@ -1,14 +1,13 @@
 -- Parts of a line one after another: each is laid where the one before ends, and together they are as long as all of them.
-use Prim.Native.Nat.{ℕ, suc, ◌+◌, ◌*◌, ◌≤◌, ◌<◌}
+use Prim.Native.Nat.{ℕ, suc, ◌+◌, ◌*◌, ◌≤◌}
 use mathlib.Core.Path.{◌≡◌, refl, sym, ap, ◌∙◌}
 use mathlib.Core.List.{List, [], ◌∷◌, ◌++◌, append_assoc, append-nil}
 use native.Mathlib.Nat.{mul-suc}
 use native.Mathlib.Numerals.{add-one}
 use native.Mathlib.Omega.{arith}
-use lib.ListN.{length, take, get_or, length-append}
-use lib.Seq.{take-suc, take-length}
+use lib.ListN.{length, length-append}
 use Rattle.numbers.specs.Bytes.{laid_at}
-use Rattle.numbers.proofs.Laid.{laid_next, laid_none, length-laid}
+use Rattle.numbers.proofs.Laid.{laid_more, laid_next, laid_none, length-laid}
 use Rattle.writers.specs.Runs.{run}
 use Rattle.lines.specs.Lines.{spaced}
 use Rattle.lines.specs.Inner.{Lays}
@@ -53,24 +52,6 @@ module _ (entry : List ℕ) (at : ℕ) where
   within m n r h a = record { room = a.room; after = a.after; few = h }
 
 module _ (entry : List ℕ) (at : ℕ) where
-  -- a word, byte by byte
-  module _ (word : List ℕ) where
-    pub word-start : Lays entry at (take 0 word) 0 (at + 0) entry
-    word-start = record { room = laid_none entry at; after = refl; few = omega arith }
-
-    pub word_more : {out next : List ℕ} (i : ℕ) → at + length word ≤ length entry → i < length word → Lays entry at (take i word) i (at + i) out
-        → next ≡ laid_at out (at + i) (get_or word i 0 ∷ []) → Lays entry at (take (i + 1) word) (i + 1) (at + (i + 1)) next
-    word_more {out} {next} i h l a e =
-        let b = lays out (at + i) 1 (at + (i + 1)) (omega arith) (omega arith) e in
-        rw (add-one i, take-suc word i 0 l) (rw (add-one i) at (then entry at i 1 (at + i) (at + (i + 1)) (omega arith) a b))
-
-    pub word_end : {out : List ℕ} (i : ℕ) → length word ≤ i → i ≤ length word → Lays entry at (take i word) i (at + i) out
-        → Lays entry at word (length word) (at + i) out
-    word_end i h l a =
-        let e : i ≡ length word = omega arith in
-        let t : take i word ≡ word = ap (λ (k : ℕ). take k word) e ∙ take-length word in
-        within entry at i (length word) (at + i) (omega arith) (rw t at a)
-
   -- so many parts of a run
   module _ (f : ℕ → List ℕ) (most : ℕ) where
     pub run-start : Lays entry at (run f 0) (most * 0) at entry
@@ -98,3 +79,6 @@ four-fields entry at m i j k r h a b c d =
     let q3 = then entry at (m + m) m j k (omega arith) q2 c in
     let q4 = then entry at (m + m + m) m k r (omega arith) q3 d in
     within entry at (m + m + m + m) (m * 4) r (omega (arith, q4.few)) q4
+
+-- parts one behind another are one part
+pub ruleset laying = (laid_more, length-append)

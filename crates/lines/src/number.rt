@@ -1,54 +1,62 @@
-// Numbers in decimal, laid at a place of a room.
+// Numbers in decimal, laid at a place of a room. Each part takes the room and its place, asks that it fits there, and gives the place behind it, as said in `field`.
 ghost use Rattle.std.specs.Prelude.{◌≡◌, [], ◌∷◌, ◌+◌, ◌/◌, ◌%◌, ◌≤◌, ◌<◌, length};
 ghost use Rattle.numbers.specs.Bytes.{laid_at};
 ghost use Rattle.numbers.specs.Decimal.{digit, decimal};
-ghost use Rattle.lines.specs.Inner.{Lays, digit_pairs};
+ghost use Rattle.lines.specs.Inner.{Lays};
 
-use numbers::bytes::lay_u8;
+use crate::table::PAIRS;
+use numbers::bytes::Field;
 
-// Where a number has more digits than two pairs.
-pub const FEW: u32 = 10000;
-
-// The hundredth of a number of four digits.
-fn hundredth(n: u32) -> u32
-    requires { n < 10000 }
-    ensures { result ≡ n / 100 }
-{
-    n * 5243 / 524288
-}
-
-fn lay_pair(out: &mut [u8], at: usize, k: u32, pairs: &[u16])
-    requires { (k < 100) × ((at + 2 ≤ length out.old) × (pairs.now ≡ digit_pairs)) }
+fn lay_pair(out: &mut [u8], at: usize, k: u32)
+    requires { (k < 100) × (at + 2 ≤ length out.old) }
     ensures { out.new ≡ laid_at out.old at (digit (k / 10) ∷ digit (k % 10) ∷ []) }
 {
-    let pair = pairs[k as usize];
-    lay_u8(out, at, (pair % 256) as u8);
-    lay_u8(out, at + 1, (pair / 256) as u8);
+    let pair = PAIRS[k as usize];
+    ((pair % 256) as u8).lay(out, at);
+    ((pair / 256) as u8).lay(out, at + 1);
 }
 
-// How many digits a number below 10 ^ 4 has, without a branch: that cannot be foretold.
-fn few_count(n: u32) -> usize
-    requires { n < 10000 }
-    ensures { result ≡ length (decimal n) }
-{
-    1 + (9 < n) as usize + (99 < n) as usize + (999 < n) as usize
+// A number of few digits: no more than two pairs of them.
+#[derive(Clone, Copy)]
+pub struct Few {
+    pub n: u32,
+    ghost few: { n < 10000 },
 }
 
-// A byte and the digits behind it. Zeros in front of the digits are laid too, and the last two digits and the byte over them.
-pub fn lay_few(out: &mut [u8], at: usize, front: u8, n: u32, pairs: &[u16]) -> usize
-    requires { (n < 10000) × ((at + 1 + length (decimal n) ≤ length out.old) × (pairs.now ≡ digit_pairs)) }
-    ensures { Lays out.old at (front ∷ decimal n) (1 + length (decimal n)) result out.new }
-{
-    let high = hundredth(n);
-    let low = n - high * 100;
-    let count = few_count(n);
-    lay_pair(out, at + (999 < n) as usize, high, pairs);
-    lay_pair(out, at + count - 1, low, pairs);
-    lay_u8(out, at, front);
-    at + 1 + count
+impl Few {
+    // Where a number has more digits.
+    pub const END: u32 = 10000;
+
+    // The hundredth of it.
+    fn hundredth(self) -> u32
+        ensures { result ≡ self.n / 100 }
+    {
+        self.n * 5243 / 524288
+    }
+
+    // How many digits it has, without a branch: that cannot be foretold. `as` and not `usize::from`, which makes each bit a call and is no plainer.
+    fn digits(self) -> usize
+        ensures { result ≡ length (decimal self.n) }
+    {
+        1 + (9 < self.n) as usize + (99 < self.n) as usize + (999 < self.n) as usize
+    }
+
+    // A byte and the digits behind it. Zeros in front of the digits are laid too, and the last two digits and the byte over them.
+    pub fn lay(self, out: &mut [u8], at: usize, front: u8) -> usize
+        requires { at + 1 + length (decimal self.n) ≤ length out.old }
+        ensures { Lays out.old at (front ∷ decimal self.n) (1 + length (decimal self.n)) result out.new }
+    {
+        let high = self.hundredth();
+        let low = self.n - high * 100;
+        let count = self.digits();
+        lay_pair(out, at + (999 < self.n) as usize, high);
+        lay_pair(out, at + count - 1, low);
+        front.lay(out, at);
+        at + 1 + count
+    }
 }
 
-// How many digits a number of 32 bits has that is not below 10 ^ 4: a comparison costs less than a division.
+// How many digits a number of 32 bits has that is not below 10 ^ 4: by comparisons, as they are told apart by size, with no division.
 pub fn digit_count(n: u32) -> usize
     requires { 10000 ≤ n }
     ensures { result ≡ length (decimal n) }

@@ -1,7 +1,7 @@
-// The digits of small numbers, as a table that is lent to what lays them.
+// The digits of small numbers, as a table.
 
 // The two digits of each number below 100, the first in the low byte, so that they are one load and one store.
-pub const PAIRS: [u16; 100] = [
+pub static PAIRS: [u16; 100] = [
     12336, 12592, 12848, 13104, 13360, 13616, 13872, 14128, 14384, 14640, 12337, 12593, 12849,
     13105, 13361, 13617, 13873, 14129, 14385, 14641, 12338, 12594, 12850, 13106, 13362, 13618,
     13874, 14130, 14386, 14642, 12339, 12595, 12851, 13107, 13363, 13619, 13875, 14131, 14387,

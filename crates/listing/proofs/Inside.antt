@@ -4,7 +4,7 @@ use Rattle.numbers.specs.Choice.{pick}
 use Rattle.numbers.proofs.Laid.{laid-front}
 use Rattle.terms.specs.Reply.{Reply, is, refused}
 use Rattle.records.specs.Longest.{longest_result}
-use Rattle.day.specs.declared.offer.Step.{Step}
+use Rattle.day.specs.Outcome.{Step}
 use Rattle.day.specs.Offers.{offer_of}
 use Rattle.day.proofs.Beyond.{inside}
 use Rattle.lines.specs.Lines.{longest_lines}

@@ -1,9 +1,11 @@
 -- The ends of a step, and what was offered: the lines by the room after the call are those by the block's result.
-use Rattle.std.proofs.Common.{◌≡◌, ℕ, ◌+◌, ◌<◌, Bool, true, false, not, ◌&&◌, ltb, List, [], length, drop, sym, refl, ap, ◌∙◌, append-nil, arith, length-append, ltb-true}
+use Rattle.std.proofs.Common.{◌≡◌, ℕ, ◌+◌, ◌<◌, ◌≤◌, Bool, true, false, not, ◌&&◌, List, [], ◌++◌, length, drop, sym, refl, ap, ◌∙◌, append_assoc, append-nil, arith, length-append, take-append-drop, ltb-true, lt-ltb, le-ltb}
+use Rattle.std.specs.Array.{IsFirstChunk}
+use Rattle.std.proofs.lemmas.List.{drop-append-le}
 use mathlib.Core.Bool.{and-false}
 use Rattle.numbers.specs.Bytes.{byte_at}
 use Rattle.numbers.specs.Choice.{pick}
-use Rattle.numbers.proofs.Laid.{laid_none}
+use Rattle.numbers.proofs.Laid.{laid_none, laid-front}
 use Rattle.terms.specs.Reply.{is}
 use Rattle.terms.specs.Refusals.{number_of, refusal}
 use Rattle.terms.specs.declared.refusal.Refusal.{Refusal}
@@ -17,8 +19,8 @@ use Rattle.walk.specs.declared.table.Role.TheVariants.{Opens, Block, Closes}
 use Rattle.walk.specs.Table.{role_of, is_block}
 use Rattle.day.specs.declared.value.Day.{Day}
 use Rattle.records.specs.Longest.{longest_result}
-use Rattle.day.specs.declared.offer.Step.{Step}
-use Rattle.day.specs.declared.offer.Offered.TheVariants as O
+use Rattle.day.specs.Outcome.{Step}
+use Rattle.day.specs.Outcome as O
 use Rattle.decode.specs.Block.{block_count}
 use Rattle.blocks.specs.Blocks.{group_result, group_told, block_result}
 use Rattle.day.specs.Offers.{head_for, offer_of, written_of, Offers}
@@ -31,31 +33,31 @@ use Rattle.lines.specs.Inner.{Readable}
 use Rattle.listing.specs.declared.list.Listing.{Listing}
 use Rattle.listing.specs.declared.list.Listed.{Listed}
 use Rattle.listing.specs.declared.list.Listed.TheVariants.{Full, Done}
-use Rattle.listing.specs.Listing.{answer_of, waits, full, done, outcome, accepted_lines, list_taken, list_refused, list_reply, must_wait, list_offered, over, list_of, Lists}
+use Rattle.listing.specs.Listing.{answer_of, waits, full, done, Outcome, outcome, accepted_lines, list_taken, list_refused, list_reply, must_wait, list_offered, over, list_of, Lists}
 
 module _ (l : Listing) (s : List ℕ) (ended : Bool) (entry : List ℕ) where
   -- an answer that writes nothing
   silent : (r : Listed) → list_of l s ended (length entry) ≡ outcome (answer_of r) [] → Lists (list_of l s ended (length entry)) entry r entry
   silent r e = rw e (record { replied = refl; room = laid_none entry 0 })
 
-  is-full : ltb (length entry) longest_lines ≡ true → list_of l s ended (length entry) ≡ outcome full []
+  is-full : length entry < longest_lines → list_of l s ended (length entry) ≡ outcome full []
   unfolding list_of
-  is-full a = rw a
+  is-full h = rw (lt-ltb (length entry) longest_lines h)
 
-  pub when-full : ltb (length entry) longest_lines ≡ true → Lists (list_of l s ended (length entry)) entry Full entry
-  when-full a = silent Full (is-full a)
+  pub when-full : length entry < longest_lines → Lists (list_of l s ended (length entry)) entry Full entry
+  when-full h = silent Full (is-full h)
 
-  module _ (a : ltb (length entry) longest_lines ≡ false) where
+  module _ (h : longest_lines ≤ length entry) where
     is-done : (ended && over l.day s) ≡ true → list_of l s ended (length entry) ≡ outcome done []
     unfolding list_of
-    is-done c = rw (a, c)
+    is-done c = rw (le-ltb (length entry) longest_lines h, c)
 
     pub when-done : (ended && over l.day s) ≡ true → Lists (list_of l s ended (length entry)) entry Done entry
     when-done c = silent Done (is-done c)
 
     pub offered : (ended && over l.day s) ≡ false → list_of l s ended (length entry) ≡ list_offered l.place s ended (offer_of l.day s longest_result)
     unfolding list_of
-    offered c = rw (a, c)
+    offered c = rw (le-ltb (length entry) longest_lines h, c)
 
 -- what was offered is there
 pub present : (day : Day) (s : List ℕ) (room : ℕ) {step : Step} → offer_of day s room ≡ is step → 0 < length s
@@ -116,3 +118,16 @@ module _ (day : Day) (s entry : List ℕ) (long : length entry ≡ longest_resul
   refused f back o place ended =
       let e : offer_of day s longest_result ≡ refusal f = rw long at (sym o.gave.replied) in
       rw e
+
+-- lines at the front of a room that keeps its length: the rest is as it was
+pub in-front : {right : Outcome} {entry front exit : List ℕ} {n : ℕ} {r : Listed} → IsFirstChunk entry front n → length (exit ++ drop n entry) ≡ length entry
+    → Lists right front r exit → Lists right entry r (exit ++ drop n entry)
+in-front {right} {entry} {front} {exit} {n} chunk kept a =
+    let lines = right.lines in
+    let rest = drop n entry in
+    let after = drop (length lines) front in
+    let whole : entry ≡ front ++ rest = rw chunk.same (sym (take-append-drop n entry)) in
+    let e : exit ≡ lines ++ after = a.room ∙ laid-front front lines in
+    let few : length lines ≤ length front = omega (arith, ap length e, ap length whole, length-append exit rest, length-append front rest, length-append lines after) in
+    let behind : drop (length lines) entry ≡ after ++ rest = ap (drop (length lines)) whole ∙ drop-append-le (length lines) front rest few in
+    record { replied = a.replied; room = rw (e, append_assoc lines after rest, ← behind) (sym (laid-front entry lines)) }

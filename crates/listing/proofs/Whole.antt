@@ -8,7 +8,7 @@ use Rattle.terms.specs.Reply.{Reply, is, refused, need, next}
 use Rattle.walk.specs.Table.{role_of, head_in}
 use Rattle.day.specs.declared.value.Day.{Day}
 use Rattle.records.specs.Longest.{longest_block, longest_result}
-use Rattle.day.specs.declared.offer.Step.{Step}
+use Rattle.day.specs.Outcome.{Step}
 use Rattle.day.specs.Days.{fresh, possible}
 use Rattle.day.specs.Offers.{head_for, taken, offer_of, written_of, is_cut_short}
 use Rattle.day.proofs.Beyond.{used, inside, offer-unread}

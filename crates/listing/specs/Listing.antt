@@ -9,7 +9,7 @@ use Rattle.walk.specs.declared.table.Role.{Role}
 use Rattle.walk.specs.declared.table.Role.TheVariants.{Opens, Block, Closes}
 use Rattle.walk.specs.Table.{role_of, is_closed}
 use Rattle.day.specs.declared.value.Day.{Day}
-use Rattle.day.specs.declared.offer.Step.{Step}
+use Rattle.day.specs.Outcome.{Step}
 use Rattle.day.specs.Offers.{offer_of, written_of, is_cut_short}
 use Rattle.lines.specs.Lines.{day_line, end_line, refused_line, result_lines, longest_lines}
 use Rattle.listing.specs.declared.list.Listing.{Listing}

@@ -5,7 +5,7 @@ use Rattle.numbers.specs.Choice.{pick}
 use Rattle.terms.specs.Reply.{Reply, is, refused}
 use Rattle.records.specs.Longest.{longest_result}
 use Rattle.walk.specs.Table.{role_of}
-use Rattle.day.specs.declared.offer.Step.{Step}
+use Rattle.day.specs.Outcome.{Step}
 use Rattle.day.specs.Days.{fresh}
 use Rattle.day.specs.Offers.{offer_of, written_of}
 use Rattle.lines.specs.Lines.{refused_line}

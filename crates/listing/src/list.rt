@@ -1,7 +1,8 @@
 // One step of the day list: the next record or block of the input is offered to the day, and its lines are written.
-ghost use Rattle.std.specs.Prelude.{◌≡◌, ◌≤◌, not, ◌&&◌, [], length, ◌==◌};
+ghost use Rattle.std.specs.Prelude.{◌≡◌, not, ◌&&◌, [], length, ◌==◌};
 ghost use Rattle.numbers.specs.Choice.{pick};
 ghost use Rattle.terms.specs.Refusals.{number_of, refusal};
+ghost use Rattle.day.specs.Outcome.{step_with};
 ghost use Rattle.day.specs.Offers.{offer_of};
 ghost use Rattle.records.specs.Longest.{longest_result};
 ghost use Rattle.walk.specs.declared.table.Role.TheVariants.{Block};
@@ -10,7 +11,7 @@ ghost use Rattle.lines.specs.Inner.{Lays, Readable};
 ghost use Rattle.listing.specs.declared.list.Listed.TheVariants.{Refused};
 ghost use Rattle.listing.specs.Listing.{waits, outcome, accepted_lines, list_taken, list_refused, list_offered, must_wait, over, list_of, Lists};
 
-use day::offer::{Offered, Step, offer};
+use day::offer::Lengths;
 use day::value::Day;
 use lines::lines::{
     GROUP_LINE, UNIT_LINE, lay_day_line, lay_end_line, lay_refused_line, lay_result_lines,
@@ -18,12 +19,11 @@ use lines::lines::{
 use records::group::GroupRecord;
 use records::group_result::GroupResult;
 use records::unit_result::UnitResult;
-use std::num::wrapping_add_u64;
 use terms::refusal::{Refusal, Why};
 use walk::table::{Role, role_of};
 
 // The day so far, and how many bytes of the input were listed.
-#[derive(Clone, Copy)]
+#[derive(Clone, Copy, PartialEq, Eq, Debug)]
 pub struct Listing {
     pub day: Day,
     pub place: u64,
@@ -37,7 +37,7 @@ impl Listing {
 }
 
 // What was accepted: how many bytes of the input it has, how many its lines have, and the list after it.
-#[derive(Clone, Copy)]
+#[derive(Clone, Copy, PartialEq, Eq, Debug)]
 pub struct Part {
     pub used: usize,
     pub written: usize,
@@ -45,14 +45,15 @@ pub struct Part {
 }
 
 // What was refused: the refusal, whose place counts from what was offered, its place in the input, and how many bytes its line has.
-#[derive(Clone, Copy)]
+#[derive(Clone, Copy, PartialEq, Eq, Debug)]
 pub struct Stop {
     pub refusal: Refusal,
     pub place: u64,
     pub written: usize,
 }
 
-#[derive(Clone, Copy)]
+// Five answers of one rank: no caller hands a refusal on, so a Result around the other four would be asked for in two steps in place of one match.
+#[derive(Clone, Copy, PartialEq, Eq, Debug)]
 pub enum Listed {
     Taken(Part),
     // The list stops.
@@ -65,67 +66,60 @@ pub enum Listed {
     Done,
 }
 
-fn is_over(day: Day, s: &[u8]) -> bool
-    ensures { result ≡ over day s.now }
-{
-    if s.len() == 0 {
-        let state = day.state;
-        return state.is_closed();
-    }
-    false
-}
-
 fn is_done(day: Day, s: &[u8], ended: bool) -> bool
     ensures { result ≡ (ended && over day s.now) }
 {
-    if ended {
-        return is_over(day, s);
-    }
-    false
+    ended && s.len() == 0 && day.state.is_closed()
 }
 
 fn must_wait(why: Why, ended: bool) -> bool
     ensures { result ≡ (not ended && number_of why == 1) }
 {
-    if ended {
-        return false;
-    }
-    why.number() == 1
+    !ended && why.number() == 1
 }
 
 // The lines of what was accepted, by what it is to the day.
-fn lay_accepted(room: &mut [u8], role: Role, day: Day, res: &[u8]) -> usize
-    requires { (role ≡ Block → Readable res.now) × (longest_lines ≤ length room.old) }
+#[tactic(auto, unfolding(crate::specs::Listing::accepted_lines))]
+fn lay_accepted(room: &mut [u8; Listing::LINES], role: Role, day: Day, res: &[u8]) -> usize
+    requires { role ≡ Block → Readable res.now }
     ensures { Lays room.old 0 (accepted_lines role day res.now) longest_lines result room.new }
 {
-    let record = day.record;
+    // Three writers of three kinds of value: no plainer as closures.
     match role {
-        Role::Opens => lay_day_line(room, 0, record),
+        Role::Opens => lay_day_line(room, 0, day.record),
         Role::Block => lay_result_lines(room, 0, res),
         Role::Closes => lay_end_line(room, 0, day.groups),
     }
 }
 
-fn list_taken(place: u64, step: Step, role: Role, res: &[u8], room: &mut [u8]) -> Listed
-    requires { (role ≡ Block → Readable res.now) × (longest_lines ≤ length room.old) }
-    ensures { Lists (list_taken place step role res.now) room.old result room.new }
+// Six parameters, since what an offer left, what it was made of and the room come together here alone.
+#[tactic(auto, unfolding(crate::specs::Listing::list_taken))]
+fn list_taken(
+    place: u64,
+    n: Lengths,
+    day: Day,
+    role: Role,
+    res: &[u8],
+    room: &mut [u8; Listing::LINES],
+) -> Listed
+    requires { role ≡ Block → Readable res.now }
+    ensures { Lists (list_taken place (step_with n day) role res.now) room.old result room.new }
 {
-    let day = step.day;
     let written = lay_accepted(room, role, day, res);
-    let after = wrapping_add_u64(place, step.used as u64);
+    let after = place.wrapping_add(n.used as u64);
     Listed::Taken(Part {
-        used: step.used,
+        used: n.used,
         written,
         listing: Listing { day, place: after },
     })
 }
 
-fn lay_stop(place: u64, r: Refusal, room: &mut [u8]) -> Stop
-    requires { longest_lines ≤ length room.old }
+#[tactic(auto, unfolding(crate::specs::Listing::list_refused))]
+fn lay_stop(place: u64, r: Refusal, room: &mut [u8; Listing::LINES]) -> Stop
     ensures { Lists (list_refused place (number_of r.why) r.place) room.old (Refused result) room.new }
 {
     let why = r.why;
-    let at = wrapping_add_u64(place, r.place as u64);
+    let at = place.wrapping_add(r.place as u64);
     let written = lay_refused_line(room, 0, why.number(), at);
     Stop {
         refusal: r,
@@ -134,53 +128,37 @@ fn lay_stop(place: u64, r: Refusal, room: &mut [u8]) -> Stop
     }
 }
 
-fn list_refused(place: u64, r: Refusal, ended: bool, room: &mut [u8]) -> Listed
-    requires { longest_lines ≤ length room.old }
+#[tactic(auto, using(numbers::proofs::Laid::laid_none))]
+fn list_refused(place: u64, r: Refusal, ended: bool, room: &mut [u8; Listing::LINES]) -> Listed
     ensures { Lists (pick (must_wait (refusal r) ended) (outcome waits []) (list_refused place (number_of r.why) r.place)) room.old result room.new }
 {
-    let why = r.why;
-    if must_wait(why, ended) {
+    if must_wait(r.why, ended) {
         return Listed::Waits;
     }
     Listed::Refused(lay_stop(place, r, room))
 }
 
 // The step, by way of room for a result.
-fn list_through(l: Listing, s: &[u8], ended: bool, res: &mut [u8], room: &mut [u8]) -> Listed
-    requires { (length res.old ≡ longest_result) × (longest_lines ≤ length room.old) }
+fn list_offer(l: Listing, s: &[u8], ended: bool, room: &mut [u8; Listing::LINES]) -> Listed
     ensures { Lists (list_offered l.place s.now ended (offer_of l.day s.now longest_result)) room.old result room.new }
 {
-    let day = l.day;
-    match offer(day, s, res) {
-        Offered::Taken(step) => list_taken(l.place, step, role_of(s[0]), res, room),
-        Offered::Refused(r, _) => list_refused(l.place, r, ended, room),
+    let mut result = [0; Listing::RESULT];
+    let mut day = l.day;
+    match day.offer(s, &mut result) {
+        Ok(n) => list_taken(l.place, n, day, role_of(s[0]), &result, room),
+        Err(r) => list_refused(l.place, r, ended, room),
     }
-}
-
-fn result_room() -> [u8; Listing::RESULT]
-    ensures { longest_result ≡ length result }
-{
-    [0; Listing::RESULT]
-}
-
-fn list_offer(l: Listing, s: &[u8], ended: bool, room: &mut [u8]) -> Listed
-    requires { longest_lines ≤ length room.old }
-    ensures { Lists (list_offered l.place s.now ended (offer_of l.day s.now longest_result)) room.old result room.new }
-{
-    let mut result = result_room();
-    list_through(l, s, ended, &mut result, room)
 }
 
 // One step: s are the bytes of the input that are at hand from the listing's place on, and none will come after them where it has ended.
 pub fn list_next(l: Listing, s: &[u8], ended: bool, room: &mut [u8]) -> Listed
     ensures { Lists (list_of l s.now ended (length room.old)) room.old result room.new }
 {
-    if room.len() < Listing::LINES {
+    let Some(front) = room.first_chunk_mut::<{ Listing::LINES }>() else {
         return Listed::Full;
-    }
-    let day = l.day;
-    if is_done(day, s, ended) {
+    };
+    if is_done(l.day, s, ended) {
         return Listed::Done;
     }
-    list_offer(l, s, ended, room)
+    list_offer(l, s, ended, front)
 }

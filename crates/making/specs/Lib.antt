@@ -1,4 +1,3 @@
 -- What the lines of a day's text make, docs/TEXT.md.
 pub mod Spot
 pub mod Making
-pub mod Inner

@@ -1,52 +1,40 @@
 // What of a line was refused: the field by its index, and the word or the value there.
-ghost use Rattle.std.specs.Prelude.{◌≡◌, min};
+ghost use Rattle.std.specs.Prelude.{◌≡◌};
 ghost use Rattle.making.specs.Spot.{shown_byte, Shows};
+
+use text::line::{Field, Kind};
 
 // The most bytes of a word that are shown.
 pub const LONGEST_SHOWN: usize = 40;
 
-#[derive(Clone, Copy)]
+#[derive(Clone, Copy, PartialEq, Eq, Debug)]
 pub enum Spot {
     // No field: the whole line, or the end of the text.
     Nowhere,
-    // The word of a record of this kind, which may not come.
-    Came(u8),
-    // A field that is not in the form, of a record of this kind, 0 where it is no record's: its index, and where in the text it starts and ends.
-    Word(u8, u8, usize, usize),
-    // A value that the writers refuse, of a record of this kind: the index of its field, and the value.
-    Value(u8, u8, i32),
+    // The word of a record, which may not come.
+    Came(Kind),
+    // A field that is not in the form, of a record, or none where its word is no record's.
+    Word(Option<Kind>, Field),
+    // A value of a record that the writers refuse: the index of its field, and the value.
+    Value(Kind, u8, i32),
 }
 
 fn shown(byte: u8) -> u8
     ensures { result ≡ shown_byte byte }
 {
-    if byte < 32 {
-        return b'?';
+    match byte {
+        32..=126 => byte,
+        _ => b'?',
     }
-    if 126 < byte {
-        return b'?';
-    }
-    byte
-}
-
-fn least(a: usize, b: usize) -> usize
-    ensures { result ≡ min a b }
-{
-    if a < b {
-        return a;
-    }
-    b
 }
 
 // A word as a person can read it, at the front of the room.
 pub fn show(word: &[u8], room: &mut [u8]) -> usize
     ensures { Shows word.now room.old result room.new }
 {
-    let count = least(LONGEST_SHOWN, least(word.len(), room.len()));
-    let mut i = 0;
-    while i < count {
+    let count = LONGEST_SHOWN.min(word.len()).min(room.len());
+    for i in 0..count {
         room[i] = shown(word[i]);
-        i += 1;
     }
     count
 }

@@ -1,218 +1,184 @@
 // What a refusal says: its number and its line, and on the line after them a sentence for a person.
-use crate::input::least;
+use making::making::Refused;
 use making::spot::{LONGEST_SHOWN, Spot, show};
-use numbers::signed::magnitude;
 use std::io;
-use text::line::mark_length;
+use terms::refusal::Why;
+use text::line::{Field, Kind, mark_length};
 
-pub fn say<W: io::Write>(err: &mut W, bytes: &[u8]) {
-    let _ = err.write_all(bytes);
-}
+const DAY_FORM: &str = "a whole number from 0 to 65535 or a date such as 2026-01-14";
 
-// The part of a list that has so many bars before it; the last part where there are fewer.
-fn say_part<W: io::Write>(err: &mut W, list: &[u8], bars: usize) {
-    let mut left = bars;
-    let mut start = 0;
-    let mut next = 0;
-    while next < list.len() {
-        let byte = list[next];
-        next += 1;
-        if byte == b'|' {
-            if left == 0 {
-                say(err, &list[start..next - 1]);
-                return;
-            }
-            left -= 1;
-            start = next;
-        }
-    }
-    say(err, &list[start..]);
-}
+const MINUTE_FORM: &str =
+    "a whole number from 0 to 4294967295 or a moment such as 2026-01-14T13:20Z";
 
-// A record's word, then its fields as docs/TEXT.md has them, each by its name and by what it has to be. Twice its index of bars stand
-// before its name. Of a word that no record has nothing is asked here: it may not come.
-fn say_of_record<W: io::Write>(err: &mut W, kind: u8, bars: usize) {
+const U8_FORM: &str = "a whole number from 0 to 255";
+
+const U16_FORM: &str = "a whole number from 0 to 65535";
+
+const U32_FORM: &str = "a whole number from 0 to 4294967295";
+
+const I32_FORM: &str = "a whole number from -2147483648 to 2147483647";
+
+// A record's word, and then its fields as docs/TEXT.md has them, each by its name and by what it has to be.
+static DAY: [(&str, &str); 6] = [
+    ("DAY", ""),
+    ("day", DAY_FORM),
+    ("quarters", U8_FORM),
+    ("run minute", MINUTE_FORM),
+    ("position age limit", U16_FORM),
+    ("margin age limit", U16_FORM),
+];
+
+static GROUP: [(&str, &str); 6] = [
+    ("GROUP", ""),
+    ("BRP", U16_FORM),
+    ("zone", U8_FORM),
+    ("quarter", U8_FORM),
+    ("unit count", U8_FORM),
+    ("positions made", MINUTE_FORM),
+];
+
+static UNIT: [(&str, &str); 12] = [
+    ("UNIT", ""),
+    ("number", U16_FORM),
+    ("class", U8_FORM),
+    ("coincide", U8_FORM),
+    ("nominated", U8_FORM),
+    ("N", I32_FORM),
+    ("PC", I32_FORM),
+    ("M-", I32_FORM),
+    ("M+", I32_FORM),
+    ("margins made", MINUTE_FORM),
+    ("lower end", I32_FORM),
+    ("upper end", I32_FORM),
+];
+
+static END: [(&str, &str); 2] = [("END", ""), ("groups", U32_FORM)];
+
+static BEHIND: (&str, &str) = ("after the last field", "a field of the line");
+
+// The words of a record.
+fn words_of(kind: Kind) -> &'static [(&'static str, &'static str)] {
     match kind {
-        1 => say_part(
-            err,
-            b"DAY|\
-              |day|a whole number from 0 to 65535 or a date such as 2026-01-14\
-              |quarters|a whole number from 0 to 255\
-              |run minute|a whole number from 0 to 4294967295 or a moment such as 2026-01-14T13:20Z\
-              |position age limit|a whole number from 0 to 65535\
-              |margin age limit|a whole number from 0 to 65535\
-              |after the last field|a field of the line",
-            bars,
-        ),
-        2 => say_part(
-            err,
-            b"GROUP|\
-              |BRP|a whole number from 0 to 65535\
-              |zone|a whole number from 0 to 255\
-              |quarter|a whole number from 0 to 255\
-              |unit count|a whole number from 0 to 255\
-              |positions made|a whole number from 0 to 4294967295 or a moment such as 2026-01-14T13:20Z\
-              |after the last field|a field of the line",
-            bars,
-        ),
-        3 => say_part(
-            err,
-            b"UNIT|\
-              |number|a whole number from 0 to 65535\
-              |class|a whole number from 0 to 255\
-              |coincide|a whole number from 0 to 255\
-              |nominated|a whole number from 0 to 255\
-              |N|a whole number from -2147483648 to 2147483647\
-              |PC|a whole number from -2147483648 to 2147483647\
-              |M-|a whole number from -2147483648 to 2147483647\
-              |M+|a whole number from -2147483648 to 2147483647\
-              |margins made|a whole number from 0 to 4294967295 or a moment such as 2026-01-14T13:20Z\
-              |lower end|a whole number from -2147483648 to 2147483647\
-              |upper end|a whole number from -2147483648 to 2147483647\
-              |after the last field|a field of the line",
-            bars,
-        ),
-        _ => say_part(
-            err,
-            b"END|\
-              |groups|a whole number from 0 to 4294967295\
-              |after the last field|a field of the line",
-            bars,
-        ),
+        Kind::Day => &DAY,
+        Kind::Group => &GROUP,
+        Kind::Unit => &UNIT,
+        Kind::End => &END,
     }
 }
 
-// A part of the line as a person can read it.
-fn say_shown<W: io::Write>(err: &mut W, line: &[u8], from: usize, to: usize, room: &mut [u8]) {
-    let end = least(to, line.len());
-    let start = least(from, end);
-    let count = show(&line[start..end], room);
-    say(err, &room[..count]);
+// A field by its index in the line: its name, and what it has to be.
+fn field(kind: Kind, index: u8) -> (&'static str, &'static str) {
+    *words_of(kind).get(usize::from(index)).unwrap_or(&BEHIND)
 }
 
-// The word that was found, behind the mark that may stand in front of the line.
-fn say_word<W: io::Write>(err: &mut W, line: &[u8], number: u64, start: usize, end: usize) {
-    let mark = mark_length(line, number);
-    let mut room = [0; LONGEST_SHOWN];
-    say_shown(err, &line[mark..], start, end, &mut room);
-}
-
-fn say_number<W: io::Write>(err: &mut W, value: i32) {
-    if value < 0 {
-        say(err, b"-");
+// What is wrong with the line or the text, where no field is told, or with a value.
+fn reason(why: Option<Why>) -> &'static str {
+    match why {
+        None => "longer than 255 bytes in front of its comment",
+        Some(Why::CutShort) => "the text stops early",
+        Some(Why::Kind) => "nothing may come here",
+        Some(Why::Quarters) => "not 92, 96 or 100",
+        Some(Why::Quarter) => "above 99",
+        Some(Why::UnitCount) => "not from 1 to 64",
+        Some(Why::UnitNumber) => "not above the number before it",
+        Some(Why::Flag) => "neither 0 nor 1",
+        Some(Why::Range) => "not from -1000000 to 1000000",
+        Some(Why::Crossed) => "above M+",
+        Some(_) => "refused",
     }
-    let size = magnitude(value);
-    let _ = write!(err, "{size}");
-}
-
-// What is wrong, by the refusal's number from 0 on: with the line or the text, where no field is told, or with a value.
-fn say_why<W: io::Write>(err: &mut W, number: u8) {
-    say_part(
-        err,
-        b"longer than 255 bytes in front of its comment\
-          |the text stops early\
-          |nothing may come here\
-          |not 92, 96 or 100\
-          |above 99\
-          |not from 1 to 64\
-          |not above the number before it\
-          |neither 0 nor 1\
-          |not from -1000000 to 1000000\
-          |above M+\
-          |refused",
-        number as usize,
-    );
 }
 
 // What is wrong with a value. N, the fifth field of a unit, is told by 7 though it is no flag, and the lower end, the tenth, by 9 of the ends.
-fn say_wrong<W: io::Write>(err: &mut W, index: u8, number: u8) {
-    if number == 7 && index == 5 {
-        say(err, b"not 0 though not nominated");
-        return;
+fn wrong(why: Option<Why>, index: u8) -> &'static str {
+    match (why, index) {
+        (Some(Why::Flag), 5) => "not 0 though not nominated",
+        (Some(Why::Crossed), 10) => "above the upper end",
+        (Some(Why::WorkingCrossed), _) => "of an interval that leaves no room between the margins",
+        _ => reason(why),
     }
-    if number == 9 && index == 10 {
-        say(err, b"above the upper end");
-        return;
-    }
-    if number == 19 {
-        say(
-            err,
-            b"of an interval that leaves no room between the margins",
-        );
-        return;
-    }
-    say_why(err, number);
 }
 
-// A value that the writers refuse.
-fn say_value<W: io::Write>(err: &mut W, kind: u8, index: u8, value: i32, number: u8) {
-    say(err, b", ");
-    say_of_record(err, kind, (index as usize) * 2);
-    say(err, b": ");
-    say_number(err, value);
-    say(err, b" is ");
-    say_wrong(err, index, number);
+// Each part of what is said is tried, whatever became of the one before; words that cannot be said change nothing.
+pub fn say<W: io::Write>(err: &mut W, words: &str) {
+    let _ = err.write_all(words.as_bytes());
+}
+
+// A field's word as a person can read it.
+fn say_word<W: io::Write>(err: &mut W, text: &[u8], found: Field) {
+    let end = found.end.min(text.len());
+    let start = found.start.min(end);
+    let mut room = [0; LONGEST_SHOWN];
+    let count = show(&text[start..end], &mut room);
+    let _ = err.write_all(&room[..count]);
+}
+
+// A word that no record has.
+fn say_stranger<W: io::Write>(err: &mut W, text: &[u8], found: Field) {
+    say(err, ": ");
+    say_word(err, text, found);
+    say(err, " may not come here");
+}
+
+fn say_came<W: io::Write>(err: &mut W, kind: Kind) {
+    say(err, ": ");
+    say(err, field(kind, 0).0);
+    say(err, " may not come here");
 }
 
 // A field that is not in the form.
-fn say_field<W: io::Write>(
-    err: &mut W,
-    kind: u8,
-    index: u8,
-    start: usize,
-    end: usize,
-    line: &[u8],
-    at: u64,
-) {
-    let bars = (index as usize) * 2;
-    say(err, b", ");
-    say_of_record(err, kind, bars);
-    if end <= start {
-        say(err, b": missing");
+fn say_field<W: io::Write>(err: &mut W, kind: Kind, text: &[u8], found: Field) {
+    let (name, form) = field(kind, found.index);
+    say(err, ", ");
+    say(err, name);
+    if found.end <= found.start {
+        say(err, ": missing");
         return;
     }
-    say(err, b": ");
-    say_word(err, line, at, start, end);
-    say(err, b" is not ");
-    say_of_record(err, kind, bars + 1);
+    say(err, ": ");
+    say_word(err, text, found);
+    say(err, " is not ");
+    say(err, form);
 }
 
-fn say_came<W: io::Write>(err: &mut W, kind: u8, start: usize, end: usize, line: &[u8], at: u64) {
-    say(err, b": ");
-    if kind == 0 {
-        say_word(err, line, at, start, end);
-    } else {
-        say_of_record(err, kind, 0);
+// A value that the writers refuse.
+fn say_value<W: io::Write>(err: &mut W, kind: Kind, index: u8, value: i32, why: Option<Why>) {
+    say(err, ", ");
+    say(err, field(kind, index).0);
+    say(err, ": ");
+    let _ = write!(err, "{value}");
+    say(err, " is ");
+    say(err, wrong(why, index));
+}
+
+// What is wrong where no field is told.
+fn say_reason<W: io::Write>(err: &mut W, why: Option<Why>) {
+    say(err, ": ");
+    say(err, reason(why));
+}
+
+fn say_spot<W: io::Write>(err: &mut W, refused: Refused, text: &[u8]) {
+    let why = refused.why;
+    match refused.spot {
+        Spot::Nowhere => say_reason(err, why),
+        Spot::Came(kind) => say_came(err, kind),
+        Spot::Word(None, found) => say_stranger(err, text, found),
+        Spot::Word(Some(kind), _) if why == Some(Why::Kind) => say_came(err, kind),
+        Spot::Word(Some(kind), found) => say_field(err, kind, text, found),
+        Spot::Value(kind, index, value) => say_value(err, kind, index, value, why),
     }
-    say(err, b" may not come here");
 }
 
-fn say_spot<W: io::Write>(err: &mut W, number: u8, at: u64, spot: Spot, line: &[u8]) {
-    match spot {
-        Spot::Nowhere => {
-            say(err, b": ");
-            say_why(err, number);
-        }
-        Spot::Came(kind) => say_came(err, kind, 0, 0, line, at),
-        Spot::Word(kind, index, start, end) => {
-            if number == 2 {
-                say_came(err, kind, start, end, line, at);
-            } else {
-                say_field(err, kind, index, start, end, line, at);
-            }
-        }
-        Spot::Value(kind, index, value) => say_value(err, kind, index, value, number),
-    }
-}
-
-// The number and the line, for a program to read; then the line, the field by its name, and what is wrong with it.
-pub fn tell_refusal<W: io::Write>(err: &mut W, number: u8, at: u64, spot: Spot, line: &[u8]) {
-    say(err, b"REFUSED ");
+// The number and the line, for a program to read; then the line, the field by its name, and what is wrong with it. A word stands behind the mark
+// that may stand in front of the line.
+pub fn tell_refusal<W: io::Write>(err: &mut W, refused: Refused, line: &[u8]) {
+    let number = refused.number();
+    let at = refused.line;
+    say(err, "REFUSED ");
     let _ = write!(err, "{number}");
-    say(err, b" ");
+    say(err, " ");
     let _ = write!(err, "{at}");
-    say(err, b"\nmkday: line ");
+    say(err, "\nmkday: line ");
     let _ = write!(err, "{at}");
-    say_spot(err, number, at, spot, line);
-    say(err, b"\n");
+    say_spot(err, refused, &line[mark_length(line, at)..]);
+    say(err, "\n");
 }

@@ -1,5 +1,3 @@
 -- Laws of a refusal in words.
 pub mod Laying
 pub mod Inside
-pub mod Stops
-pub mod Choices

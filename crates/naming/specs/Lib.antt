@@ -1,3 +1,2 @@
 -- A refusal in words.
 pub mod Words
-pub mod Inner

@@ -1,12 +1,10 @@
 -- A refusal in one line of text: whose record, the field, the value read there, and what it was held against. Numbers stand as in the day list, after one space.
-use Rattle.std.specs.Prelude.{ℕ, ◌+◌, ◌≡◌, List, [], ◌∷◌, ◌++◌, ltb, length}
+use Rattle.std.specs.Prelude.{ℕ, ◌+◌, ◌≡◌, List, [], ◌∷◌, ◌++◌, ltb, length, Option, Some, None}
 use Rattle.numbers.specs.Bytes.{laid_at}
 use Rattle.numbers.specs.Choice.{pick}
 use Rattle.numbers.specs.Decimal.{decimal}
 use Rattle.terms.specs.declared.refusal.Refusal.{Refusal}
 use Rattle.records.specs.declared.key.Key.{Key}
-use Rattle.records.specs.declared.key.Last.{Last}
-use Rattle.records.specs.declared.key.Last.TheVariants as K
 use Rattle.day.specs.declared.value.Day.{Day}
 use Rattle.lines.specs.Lines.{signed_decimal, u32_field, u64_field, i32_field}
 use Rattle.finding.specs.declared.named.Subject.{Subject}
@@ -286,9 +284,9 @@ held_words (H.Accepted n) = numbered accepted_word n
 unfoldable pub told_words : Told → List ℕ
 told_words t = (field_name t.field ++ value_words t.value) ++ held_words t.held
 
-unfoldable pub last_words : Last → List ℕ
-last_words K.Nothing = first_phrase
-last_words (K.Block k) = after_word ++ key_words k
+unfoldable pub last_words : Option Key → List ℕ
+last_words None = first_phrase
+last_words (Some k) = after_word ++ key_words k
 
 unfoldable pub finding_words : Finding → List ℕ
 finding_words (N.CutShort n) = numbered cut_word n

@@ -1,6 +1,6 @@
 // A refusal in words: one line of the plant, the field, the value read there, and what it was held against.
 #![tactic(auto)]
 
-mod fixed;
+mod fields;
 pub mod name;
 mod words;

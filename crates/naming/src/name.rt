@@ -22,7 +22,8 @@ const FINDING: usize = 14 + (1 + NUMBER) + HELD;
 // The line's most bytes: plants, a colon and a space, what was found, and the line feed.
 pub const LINE: usize = SUBJECT + 2 + FINDING + 1;
 
-// The line of a refusal of bytes that were offered to a day, at the front of a room; its length, or 0 and nothing in a room that is too small for the longest.
+// The line of a refusal of bytes that were offered to a day, at the front of a room; its length, or 0 and nothing in a room that is too small for the longest: `Names` tells how long what was written is, which of nothing is 0, so this is no Option.
+#[tactic(auto, using(numbers::proofs::Laid::laid_none))]
 pub fn name(day: Day, s: &[u8], r: Refusal, room: &mut [u8]) -> usize
     ensures { Names day s.now r room.old result room.new }
 {

@@ -1,7 +1,7 @@
 -- Signed linear arithmetic by omega: every ℤ is `pp z - nn z`, two naturals of which one is 0, and each statement about ℤ is one about those.
 -- Tests, equations and ranges go by rules (the set `zarith`); a sum, a difference or a negation by a fact that the call lists (`plus a b`, `minus a b`, `neg a`).
 use Rattle.std.proofs.Common.{◌≡◌, ℕ, zero, suc, ◌+◌, ◌-◌, ◌^◌, ◌<◌, ◌≤◌, max, Bool, true, false, cond, ◌&&◌, T, eqb, ltb, ℤ, pos, negsuc, ◌+ℤ◌, ◌-ℤ◌, neg_ℤ, nat_abs, sym, refl, ap, ◌∙◌, subst, arith, w8, w16, w32, w64, SFits, to_z, of_z, ltb-false, ltb-true, le-ltb, lt-ltb, eqb-true, le-leb, leb-false, leb-true}
-use borrow.Author.Tests.{eqb-false, lt-leb}
+use borrow.Author.Tests.{lt-leb}
 use lib.IntN.{sub_ℕ}
 use lib.Signed.{lt_z, le_z, non_neg}
 use mir.Syntax.{Width, w128}
@@ -9,7 +9,6 @@ use mir.Val.{bits, hbits, sel}
 use mir.ValLaws.{to_z-of_z}
 use mir.Facts.{sfits_lit}
 use Rattle.numbers.specs.Range.{Within}
-use Rattle.numbers.specs.Choice.{eq_z}
 
 -- the part above zero, and the part below
 abbrev pub pp : ℤ → ℕ
@@ -132,21 +131,7 @@ z-nonneg (negsuc n) h = absurd (no n h)
     no : (n : ℕ) → suc n ≡ 0 → ⊥
     no n h = omega arith
 
--- two's complement: the bits of z, and what bits stand for
-pub bits_up : (w : Width) (z : ℤ) → nn z ≡ 0 → of_z w z ≡ pp z
-bits_up w (pos n) h = refl
-bits_up w (negsuc n) h = absurd (no n h)
-  where
-    no : (n : ℕ) → suc n ≡ 0 → ⊥
-    no n h = omega arith
-
-pub bits-down : (w : Width) (z : ℤ) → 0 < nn z → nn z ≤ 2 ^ bits w → of_z w z + nn z ≡ 2 ^ bits w
-bits-down w (pos n) h k = absurd (no h)
-  where
-    no : 0 < 0 → ⊥
-    no h = omega arith
-bits-down w (negsuc n) h k = omega arith
-
+-- two's complement: what bits stand for
 sel-ind : (c : Bool) (x y : ℤ) (P : ℤ → Type 0) → (c ≡ true → P x) → (c ≡ false → P y) → P (sel c x y)
 sel-ind true x y P f g = f refl
 sel-ind false x y P f g = g refl
@@ -184,10 +169,6 @@ zero-fits w16 = sfits_lit tt
 zero-fits w32 = sfits_lit tt
 zero-fits w64 = sfits_lit tt
 zero-fits w128 = sfits_lit tt
-
-module _ {w : Width} {x y : ℤ} {t : Bool} (f : SFits w x) (g : SFits w y) where
-  pub plain-lt : lt_z (to_z w (of_z w x)) (to_z w (of_z w y)) ≡ t → lt_z x y ≡ t
-  plain-lt e = rw (to_z-of_z w x f, to_z-of_z w y g) at e
 
 -- ---- sums
 -- z is `p - n`, and no further from zero than p and n are
@@ -229,30 +210,3 @@ asym a b e = omega zarith
 pub by-test : (t : Bool) (P : Bool → Type 0) → (t ≡ true → P true) → (t ≡ false → P false) → P t
 by-test true P f g = f refl
 by-test false P f g = g refl
-
-pub eq_z-yes : (a b : ℤ) → a ≡ b → eq_z a b ≡ true
-eq_z-yes a b e = simp (t-le a b (omega zarith), t-le b a (omega zarith))
-
-pub eq_z-no : (a b : ℤ) → (a ≡ b → ⊥) → eq_z a b ≡ false
-eq_z-no a b n =
-    by-test (le_z a b) (λ t. (t && le_z b a) ≡ false)
-    (λ h. by-test (le_z b a) (λ t. t ≡ false) (λ k. absurd (n (omega zarith))) (λ k. refl))
-    (λ h. refl)
-
--- the test `a == b` in code, both ways
-pub eq_z-bits : (w : Width) (a b : ℤ) → SFits w a → SFits w b → of_z w a ≡ of_z w b → eq_z a b ≡ true
-eq_z-bits w a b f g e = eq_z-yes a b (of_z-inj w a b f g e)
-
-pub ne_z-bits : (w : Width) (a b : ℤ) → (of_z w a ≡ of_z w b → ⊥) → eq_z a b ≡ false
-ne_z-bits w a b n = eq_z-no a b (λ e. n (ap (of_z w) e))
-
--- the other way round, where the code's test held
-pub plain-asym : {w : Width} {x y : ℤ} (f : SFits w x) (g : SFits w y) → lt_z (to_z w (of_z w x)) (to_z w (of_z w y)) ≡ true → lt_z y x ≡ false
-plain-asym {w} {x} {y} f g e = asym x y (plain-lt f g e)
-
--- the same, as one equation of tests
-pub eq_z-test : (w : Width) (a b : ℤ) → SFits w a → SFits w b → eqb (of_z w a) (of_z w b) ≡ eq_z a b
-eq_z-test w a b f g =
-    by-test (eqb (of_z w a) (of_z w b)) (λ t. t ≡ eq_z a b)
-    (λ h. sym (eq_z-bits w a b f g (eqb-true (of_z w a) (of_z w b) h)))
-    (λ h. sym (ne_z-bits w a b (eqb-false (of_z w a) (of_z w b) h)))

@@ -1,7 +1,9 @@
 -- Bytes stored one run after another are one run.
 use Rattle.std.proofs.Common.{◌≡◌, ℕ, ◌+◌, ◌≤◌, List, [], ◌++◌, length, take, drop, sym, ◌∙◌, append_assoc, append-nil, arith, length-append, length-drop, take-append-drop, length-take-le, take-take, drop-drop, take_at, drop_at}
 use lib.Seq.{take-append-le, drop-append-add}
+use Rattle.std.proofs.lemmas.Int.{to_z-of_z}
 use Rattle.numbers.specs.Bytes.{laid_at}
+use Rattle.numbers.specs.Fields.{length_bytes16, length_bytes32}
 
 pub length-laid : (l : List ℕ) (i : ℕ) (xs : List ℕ) → i + length xs ≤ length l → length (laid_at l i xs) ≡ length l
 unfolding laid_at
@@ -57,3 +59,6 @@ unfolding laid_at
 laid-front l bytes =
     let e : 0 + length bytes ≡ length bytes = omega arith in
     rw e
+
+-- what a writer needs that lays the fields of a record in their order
+pub ruleset laying = (laid_more, length_bytes16, length_bytes32, length-append, to_z-of_z)

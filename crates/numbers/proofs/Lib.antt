@@ -3,6 +3,7 @@ pub mod Integers
 pub mod Choices
 pub mod Columns
 pub mod Filling
+pub mod Updating
 pub mod Sums
 pub mod Laid
 pub mod Trips

@@ -1,8 +1,10 @@
 -- Laws of sums over the first n indices, by induction on n, and of sums of signed columns.
-use Rattle.std.proofs.Common.{◌≡◌, ℕ, zero, suc, ◌+◌, ◌*◌, ◌<◌, ◌≤◌, Bool, true, false, ltb, List, [], ◌∷◌, ◌++◌, length, get_or, take, ℤ, pos, ◌+ℤ◌, sym, refl, ap, ◌∙◌, subst, le_of_eq, le_refl, le_of_suc-le-suc, not-suc-le-zero, add-one, arith, le-ltb, lt-ltb}
+use Rattle.std.proofs.Common.{◌≡◌, ℕ, zero, suc, ◌+◌, ◌*◌, ◌<◌, ◌≤◌, Bool, true, false, ltb, cond, List, [], ◌∷◌, ◌++◌, length, get_or, take, ℤ, pos, ◌+ℤ◌, sym, refl, ap, ◌∙◌, subst, le_of_eq, le_refl, not-suc-le-zero, add-one, arith, le-ltb, lt-ltb}
 use native.Mathlib.Decide.{dec_lt}
 use lib.IntN.{+ℤ_assoc, +ℤ_idl, +ℤ_idr}
 use lib.Seq.{take-length}
+use Rattle.std.specs.Prelude.{count_by, fold}
+use Rattle.std.proofs.lemmas.List.Sums.{sum_by-cons}
 use Rattle.numbers.specs.Range.{Within}
 use Rattle.numbers.specs.Column.{column, at, AllWithin}
 use Rattle.numbers.specs.Sum.{sum, sum_z, sum_to, bit, count}
@@ -89,6 +91,17 @@ unfolding sum sum_to
 sum_to-list [] = refl
 sum_to-list (x ∷ s) = omega (arith, sum_to-front (length s) (λ (i : ℕ). get_or (x ∷ s) i 0), sum_to-list s)
 
+-- a count over indices is the count of the list's entries
+bit-cond : (b : Bool) → bit b ≡ cond b 1 0
+bit-cond true = refl
+bit-cond false = refl
+
+pub count-list : (p : ℕ → Bool) (l : List ℕ) → count_by p l ≡ count (length l) (λ i. p (get_or l i 0))
+unfolding count sum_to
+count-list p [] = refl
+count-list p (x ∷ l) =
+    omega (arith, sum_by-cons (λ y. cond (p y) 1 0) x l, count-list p l, sum_to-front (length l) (λ i. bit (p (get_or (x ∷ l) i 0))), bit-cond (p x))
+
 sum-snoc : (s : List ℕ) (x : ℕ) → sum (s ++ (x ∷ [])) ≡ sum s + x
 unfolding sum
 sum-snoc [] x = omega arith
@@ -141,16 +154,6 @@ sum-entry (x ∷ s) zero = omega arith
 sum-entry (x ∷ s) (suc i) = omega (arith, sum-entry s i)
 
 -- ---- signed columns
-sum-suc : (l : List ℤ) (i : ℕ) → i < length l → sum_z (take (suc i) l) ≡ sum_z (take i l) +ℤ at l i
-unfolding sum_z
-sum-suc [] i h = absurd (not-suc-le-zero h)
-sum-suc (z ∷ l) zero h = +ℤ_idr z ∙ sym (+ℤ_idl z)
-sum-suc (z ∷ l) (suc i) h = ap (λ (x : ℤ). z +ℤ x) (sum-suc l i (le_of_suc-le-suc h)) ∙ sym (+ℤ_assoc z (sum_z (take i l)) (at l i))
-
--- one entry more
-pub sum_more : (l : List ℤ) (i : ℕ) → i < length l → sum_z (take (i + 1) l) ≡ sum_z (take i l) +ℤ at l i
-sum_more l i h = rw add-one (sum-suc l i h)
-
 pub sum-within : (b : ℕ) (l : List ℤ) → AllWithin b l → (i : ℕ) → Within (i * b) (sum_z (take i l))
 unfolding sum_z
 sum-within b l h zero = omega zarith
@@ -183,3 +186,12 @@ sum-sides l =
     subst (λ (x : List ℤ). Diff (sum_z x) (sum_to (length l) (λ i. pp (at l i))) (sum_to (length l) (λ i. nn (at l i))))
     (sym (column-self (pos 0) l))
     (sum_z-parts (at l) (length l))
+
+-- the same sum as a fold from the left, as a loop adds it up
+fold-first : (l : List ℤ) (a : ℤ) → fold ◌+ℤ◌ a l ≡ a +ℤ sum_z l
+unfolding sum_z
+fold-first [] a = sym (+ℤ_idr a)
+fold-first (z ∷ l) a = fold-first l (a +ℤ z) ∙ +ℤ_assoc a z (sum_z l)
+
+pub sum_folded : (l : List ℤ) (i : ℕ) (total : ℤ) → i ≡ length l → total ≡ fold ◌+ℤ◌ (pos 0) (take i l) → total ≡ sum_z l
+sum_folded l i total e h = h ∙ rw (e, take-length) (fold-first l (pos 0) ∙ +ℤ_idl (sum_z l))

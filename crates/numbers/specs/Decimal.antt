@@ -1,5 +1,5 @@
 -- Numbers in decimal, in ASCII: how one is spelled, and what digits come to.
-use Rattle.std.specs.Prelude.{ℕ, zero, suc, ◌+◌, ◌-◌, ◌*◌, ◌/◌, ◌%◌, Bool, true, ◌&&◌, List, [], ◌∷◌, ◌++◌, nat_le, nat_lt}
+use Rattle.std.specs.Prelude.{ℕ, zero, suc, ◌+◌, ◌-◌, ◌*◌, ◌/◌, ◌%◌, Bool, true, ◌&&◌, List, [], ◌∷◌, ◌++◌, Option, Some, None, nat_le, nat_lt}
 use Rattle.numbers.specs.Choice.{pick}
 
 -- ---- spelled
@@ -20,9 +20,9 @@ decimal n = digits 20 n
 abbrev pub is_digit : ℕ → Bool
 is_digit b = nat_le 48 b && nat_le b 57
 
--- the number of a digit; of any other byte one above 9, as 32 bits wrap
-abbrev pub digit_in : ℕ → ℕ
-digit_in b = pick (nat_le 48 b) (b - 48) (b + 4294967248)
+-- the number of a digit; of any other byte none
+abbrev pub digit_in : ℕ → Option ℕ
+digit_in b = pick (is_digit b) (Some (b - 48)) None
 
 unfoldable pub all_digits : List ℕ → Bool
 all_digits [] = true

@@ -4,5 +4,5 @@ pub mod Range
 pub mod Column
 pub mod Sum
 pub mod Bytes
+pub mod Fields
 pub mod Decimal
-pub mod Inner

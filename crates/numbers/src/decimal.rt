@@ -1,37 +1,27 @@
 // Numbers in decimal: a digit read, and all digits of a number laid at a place of a room.
-ghost use Rattle.std.specs.Prelude.{◌≡◌, ◌+◌, ◌-◌, ◌≤◌, true, length};
+ghost use Rattle.std.specs.Prelude.{◌≡◌, ◌+◌, ◌≤◌, length};
 ghost use Rattle.numbers.specs.Bytes.{laid_at};
-ghost use Rattle.numbers.specs.Decimal.{is_digit, digit_in, decimal};
+ghost use Rattle.numbers.specs.Decimal.{digit_in, decimal};
 
-use crate::bytes::lay_u8;
+use crate::bytes::Field;
 
 // The digit 0, in ASCII.
 pub const ZERO: u8 = 48;
 
-pub fn is_digit(byte: u8) -> bool
-    ensures { result ≡ is_digit byte }
-{
-    if byte < b'0' {
-        return false;
-    }
-    byte <= b'9'
-}
-
-pub fn digit_value(byte: u8) -> u64
-    requires { is_digit byte ≡ true }
-    ensures { (result ≡ byte - 48) × (result ≤ 9) }
-{
-    (byte - b'0') as u64
-}
-
-// The number of a digit; of any other byte a number above 9, so that one comparison tells both.
-pub fn digit_of(byte: u8) -> u32
+// The number of a digit, 0 to 9 in ASCII; of any other byte none.
+#[inline]
+pub fn digit_of(byte: u8) -> Option<u32>
     ensures { result ≡ digit_in byte }
 {
-    std::num::wrapping_sub_u32(byte as u32, ZERO as u32)
+    if byte.is_ascii_digit() {
+        Some(u32::from(byte - ZERO))
+    } else {
+        None
+    }
 }
 
 // How many digits a number of 64 bits has.
+// Tried: checked_ilog10; a line of short numbers takes half as much again to be written; tests/bench.
 pub fn long_count(n: u64) -> usize
     ensures { result ≡ length (decimal n) }
 {
@@ -45,6 +35,7 @@ pub fn long_count(n: u64) -> usize
 }
 
 // All digits of a number, the last one first; its caller counted them.
+// Tried: itoa::write_digits, and a `for` over the places in reverse; a line of short numbers takes a tenth more to be written; tests/bench.
 pub fn lay_digits(out: &mut [u8], at: usize, count: usize, n: u64)
     requires { (count ≡ length (decimal n)) × (at + count ≤ length out.old) }
     ensures { out.new ≡ laid_at out.old at (decimal n) }
@@ -52,9 +43,9 @@ pub fn lay_digits(out: &mut [u8], at: usize, count: usize, n: u64)
     let mut last = at + count - 1;
     let mut rest = n;
     while 10 <= rest {
-        lay_u8(out, last, ZERO + (rest % 10) as u8);
+        (ZERO + (rest % 10) as u8).lay(out, last);
         rest /= 10;
         last -= 1;
     }
-    lay_u8(out, last, ZERO + rest as u8);
+    (ZERO + rest as u8).lay(out, last);
 }

@@ -3,4 +3,5 @@
 
 pub mod bytes;
 pub mod decimal;
+pub mod each;
 pub mod signed;

@@ -1,5 +1,5 @@
 -- An amount by its whole MWh and its decimals: what was kept at the cap stands for what was read.
-use Prim.Native.Nat.{ℕ, ◌+◌, ◌*◌, ◌/◌, ◌%◌, ◌≤◌, ◌<◌}
+use Rattle.std.proofs.Common.{ℕ, ◌+◌, ◌*◌, ◌≤◌, min, Some, None}
 use mathlib.Core.Path.{◌≡◌, refl, sym, ap}
 use mathlib.Core.Bool.{◌&&◌}
 use mathlib.Core.List.{List}
@@ -13,8 +13,8 @@ use Rattle.numbers.proofs.Choices.{and_both}
 use Rattle.terms.specs.Reply.{Reply, is, refused, need, next}
 use Rattle.terms.proofs.Replies.{never, need-is, next-is}
 use Rattle.partner.specs.declared.fields.Held.{Held}
-use Rattle.partner.specs.Form.{held, digits_from, is_numeral, numeral_of, three_at, has_decimals, amount_of}
-use Rattle.partner.specs.Inner.{least, mwh_cap, capped, capped_amount, mapped, decimals_or}
+use Rattle.partner.specs.Form.{held, digits_from, is_numeral, numeral_of, has_decimals, amount_of}
+use Rattle.partner.specs.Inner.{mwh_cap, least_kwh, capped, capped_amount, mapped, decimals_in}
 use Rattle.partner.proofs.Ends.{some_byte}
 use Rattle.partner.proofs.Decimals.{told-wrong, told-right, decimals-there}
 
@@ -33,19 +33,19 @@ mapped-refused f (refused m q) {n} {p} e =
     rw (k, l)
 
 -- ---- a numeral that was read
-pub record Whole (s : List ℕ) (at stop cap : ℕ) (m : Held) : Type 0 where
-  pub one : Held
+pub record Whole (s : List ℕ) (at stop cap : ℕ) (m : Held ℕ) : Type 0 where
+  pub one : Held ℕ
   pub read : numeral_of s at stop ≡ is one
-  pub value : m.value ≡ least cap one.value
+  pub value : m.value ≡ min cap one.value
   pub next : m.next ≡ one.next
 
-pub whole : (s : List ℕ) (at stop cap : ℕ) {m : Held} → mapped (capped cap) (numeral_of s at stop) ≡ is m → Whole s at stop cap m
+pub whole : (s : List ℕ) (at stop cap : ℕ) {m : Held ℕ} → mapped (capped cap) (numeral_of s at stop) ≡ is m → Whole s at stop cap m
 whole s at stop cap e =
     let w = mapped-is (capped cap) (numeral_of s at stop) e in
-    record { one = w.0; read = w.1.0; value = sym (ap (λ (x : Held). x.value) w.1.1); next = sym (ap (λ (x : Held). x.next) w.1.1) }
+    record { one = w.0; read = w.1.0; value = sym (ap (λ (x : Held ℕ). x.value) w.1.1); next = sym (ap (λ (x : Held ℕ). x.next) w.1.1) }
 
 -- the byte that ends it is there
-pub numeral-there : (s : List ℕ) (at stop : ℕ) (h : Held) → 1 ≤ stop → numeral_of s at stop ≡ is h → h.next ≤ length s
+pub numeral-there : (s : List ℕ) (at stop : ℕ) (h : Held ℕ) → 1 ≤ stop → numeral_of s at stop ≡ is h → h.next ≤ length s
 unfolding numeral_of
 numeral-there s at stop h some e =
     let d = digits_from (drop at s) in
@@ -60,23 +60,19 @@ module _ (s : List ℕ) (at : ℕ) where
   unfolding amount_of next mapped
   amount-refused e = rw e
 
-  module _ (m : Held) (w : Whole s at 44 mwh_cap m) where
-    pub amount-wrong : 999 < decimals_or s m.next → mapped capped_amount (amount_of s at) ≡ refused 20 at
+  module _ (m : Held ℕ) (w : Whole s at 44 mwh_cap m) where
+    pub amount-wrong : decimals_in s m.next ≡ None → mapped capped_amount (amount_of s at) ≡ refused 20 at
     unfolding amount_of next need mapped
     amount-wrong h = rw (w.read, told-wrong s w.one.next (rw w.next at h))
 
-    pub amount-right : decimals_or s m.next ≤ 999 → mapped capped_amount (amount_of s at) ≡ is (held (m.value * 1000 + decimals_or s m.next) (m.next + 4))
+    pub amount-right : {k : ℕ} → decimals_in s m.next ≡ Some k → mapped capped_amount (amount_of s at) ≡ is (held (m.value * 1000 + k) (m.next + 4))
     unfolding amount_of next need mapped
-    amount-right h =
+    amount-right {k} h =
         let t = told-right s w.one.next (rw w.next at h) in
-        let k = number_from 0 (three_at s w.one.next) in
-        let small : k ≤ 999 = omega (arith, t.1, rw w.next at h) in
-        let v = w.one.value in
-        let q : (v * 1000 + k) / 1000 ≡ v = omega arith in
-        let r : (v * 1000 + k) % 1000 ≡ k = omega arith in
-        rw (w.value, w.next, w.read, t.0, t.1, q, r)
+        let kept : least_kwh (w.one.value * 1000 + k) ≡ m.value * 1000 + k = omega (arith, w.value, t.1.1) in
+        rw (w.read, t.0, t.1.0, kept, w.next)
 
-  pub amount-there : (h : Held) → amount_of s at ≡ is h → h.next ≤ length s
+  pub amount-there : (h : Held ℕ) → amount_of s at ≡ is h → h.next ≤ length s
   unfolding amount_of
   amount-there h e =
       let a = next-is (numeral_of s at 44) _ e in

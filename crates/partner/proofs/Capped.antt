@@ -1,47 +1,30 @@
 -- A number that is kept at a cap: what further digits make of it is the same, and what lies below the cap was not changed.
-use Prim.Native.Nat.{ℕ, ◌+◌, ◌*◌, ◌-◌, ◌≤◌, ◌<◌}
-use mathlib.Core.Path.{◌≡◌, refl, sym, ap, ◌∙◌}
+use Rattle.std.proofs.Common.{ℕ, ◌+◌, ◌*◌, ◌-◌, ◌≤◌, ◌<◌, min}
+use mathlib.Core.Path.{◌≡◌, refl, ap, ◌∙◌}
 use mathlib.Core.Bool.{true, false}
 use mathlib.Core.List.{List, [], ◌∷◌}
 use native.Mathlib.Decide.{dec_lt}
 use native.Mathlib.Numerals.{add-one}
 use native.Mathlib.Omega.{arith}
-use borrow.Author.Tests.{lt-ltb, le-ltb}
 use lib.ListN.{length, drop, drop_of_length-le}
 use lib.Seq.{drop-cons}
 use Rattle.numbers.specs.Bytes.{byte_at}
 use Rattle.numbers.specs.Decimal.{is_digit, number_from}
 use Rattle.numbers.proofs.ReadBack.{grows}
 use Rattle.partner.specs.Form.{held, digits_from}
-use Rattle.partner.specs.Inner.{least, number_cap, Digits}
+use Rattle.partner.specs.Inner.{number_cap, Digits}
 
--- ---- the cap
-pub least-is : (cap n : ℕ) → n ≤ cap → least cap n ≡ n
-least-is cap n h = go (dec_lt n cap)
+-- ---- the cap: more digits make as much of it
+pub more-kept : (cap n : ℕ) (d : List ℕ) → min cap (number_from (min cap n) d) ≡ min cap (number_from n d)
+more-kept cap n d = go (dec_lt n cap)
   where
-    go : Dec (n < cap) → least cap n ≡ n
-    go (yes l) = rw (lt-ltb n cap l)
-    go (no l) = rw (le-ltb n cap (omega arith)) (omega arith)
-
-pub least-cap : (cap n : ℕ) → cap ≤ n → least cap n ≡ cap
-least-cap cap n h = rw (le-ltb n cap h)
-
-pub least-most : (cap n : ℕ) → least cap n ≤ cap
-least-most cap n = go (dec_lt n cap)
-  where
-    go : Dec (n < cap) → least cap n ≤ cap
-    go (yes l) = rw (lt-ltb n cap l) (omega arith)
-    go (no l) = rw (le-ltb n cap (omega arith)) (omega arith)
-
--- more digits make as much of it
-pub least_more : (cap n : ℕ) (d : List ℕ) → least cap (number_from (least cap n) d) ≡ least cap (number_from n d)
-least_more cap n d = go (dec_lt n cap)
-  where
-    go : Dec (n < cap) → least cap (number_from (least cap n) d) ≡ least cap (number_from n d)
-    go (yes l) = rw (lt-ltb n cap l)
+    go : Dec (n < cap) → min cap (number_from (min cap n) d) ≡ min cap (number_from n d)
+    go (yes l) =
+        let e : min cap n ≡ n = omega arith in
+        rw e
     go (no l) =
-        let h : cap ≤ n = omega arith in
-        rw (least-cap cap n h) (least-cap cap (number_from cap d) (grows cap d) ∙ sym (least-cap cap (number_from n d) (omega (arith, grows n d))))
+        let e : min cap n ≡ cap = omega arith in
+        rw e (omega (arith, grows cap d, grows n d))
 
 -- ---- the digits at a place
 pub digits-on : (s : List ℕ) (i : ℕ) → i < length s → is_digit (byte_at s i) ≡ true → digits_from (drop i s) ≡ byte_at s i ∷ digits_from (drop (i + 1) s)
@@ -65,13 +48,13 @@ pub record Reading (s : List ℕ) (at first cap value i : ℕ) : Type 0 where
   pub small : value ≤ cap
   pub most : cap ≤ number_cap
   pub place : i + length (digits_from (drop i s)) ≡ at + length (digits_from (drop at s))
-  pub number : least cap (number_from value (digits_from (drop i s))) ≡ least cap (number_from first (digits_from (drop at s)))
+  pub number : min cap (number_from value (digits_from (drop i s))) ≡ min cap (number_from first (digits_from (drop at s)))
 
 module _ (s : List ℕ) (at first cap : ℕ) where
   pub start : first ≤ cap → cap ≤ number_cap → Reading s at first cap first at
   start h m = record { small = h; most = m; place = refl; number = refl }
 
-  pub turn : (value i next : ℕ) → Reading s at first cap value i → i < length s → is_digit (byte_at s i) ≡ true → next ≡ least cap (value * 10 + (byte_at s i - 48))
+  pub turn : (value i next : ℕ) → Reading s at first cap value i → i < length s → is_digit (byte_at s i) ≡ true → next ≡ min cap (value * 10 + (byte_at s i - 48))
       → Reading s at first cap next (i + 1)
   unfolding number_from
   turn value i next r h e n =
@@ -79,22 +62,22 @@ module _ (s : List ℕ) (at first cap : ℕ) where
       let len = ap length d in
       let w = value * 10 + (byte_at s i - 48) in
       record {
-        small = rw n (least-most cap w);
+        small = rw n (omega arith);
         most = r.most;
         place = omega (arith, r.place);
-        number = rw n (least_more cap w (digits_from (drop (i + 1) s)) ∙ (rw d at r.number));
+        number = rw n (more-kept cap w (digits_from (drop (i + 1) s)) ∙ (rw d at r.number));
       }
 
   end : (value i : ℕ) → Reading s at first cap value i → digits_from (drop i s) ≡ [] → Digits s at first cap (held value i)
   unfolding number_from
   end value i r e =
       record {
-        value = sym (least-is cap value r.small) ∙ (rw e at r.number);
+        value = omega (arith, r.small, rw e at r.number);
         next = omega (arith, r.place, ap length e);
       }
 
   pub stopped : (value i : ℕ) → Reading s at first cap value i → is_digit (byte_at s i) ≡ false → Digits s at first cap (held value i)
   stopped value i r e = end value i r (digits-out s i e)
 
-  pub ended : (value i : ℕ) → Reading s at first cap value i → length s ≤ i → Digits s at first cap (held value i)
-  ended value i r h = end value i r (digits-none s i h)
+  pub ended : (value : ℕ) → Reading s at first cap value (length s) → Digits s at first cap (held value (length s))
+  ended value r = end value (length s) r (digits-none s (length s) (omega arith))

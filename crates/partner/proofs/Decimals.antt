@@ -1,8 +1,9 @@
 -- Three decimals, digit by digit, and the semicolon that ends them.
-use Prim.Native.Nat.{ℕ, ◌+◌, ◌*◌, ◌-◌, ◌≤◌, ◌<◌}
+use Prim.Native.Nat.{ℕ, ◌+◌, ◌≤◌}
 use mathlib.Core.Path.{◌≡◌, refl}
 use mathlib.Core.Bool.{Bool, true, false, ◌&&◌}
-use mathlib.Core.List.{List, [], ◌∷◌}
+use mathlib.Core.List.{List}
+use Rattle.std.proofs.Common.{Some, None}
 use native.Mathlib.Omega.{arith}
 use borrow.Author.Tests.{eqb-true}
 use lib.Dec.{eqb}
@@ -13,29 +14,11 @@ use Rattle.numbers.specs.Decimal.{is_digit, all_digits, number_from}
 use Rattle.numbers.proofs.Choices.{and_both}
 use Rattle.numbers.proofs.ReadBack.{digit-bounds}
 use Rattle.partner.specs.Form.{three_at, has_decimals}
-use Rattle.partner.specs.Inner.{digits_or, decimals_or}
+use Rattle.partner.specs.Inner.{decimals_in}
 use Rattle.partner.proofs.Ends.{some_byte}
 
-module _ (a b c : ℕ) where
-  pub first-wrong : is_digit a ≡ false → digits_or (a ∷ b ∷ c ∷ []) ≡ 1000
-  unfolding all_digits
-  first-wrong e = rw e
-
-  pub second-wrong : is_digit a ≡ true → is_digit b ≡ false → digits_or (a ∷ b ∷ c ∷ []) ≡ 1000
-  unfolding all_digits
-  second-wrong e f = rw (e, f)
-
-  pub third-wrong : is_digit a ≡ true → is_digit b ≡ true → is_digit c ≡ false → digits_or (a ∷ b ∷ c ∷ []) ≡ 1000
-  unfolding all_digits
-  third-wrong e f g = rw (e, f, g)
-
-  pub all_right : is_digit a ≡ true → is_digit b ≡ true → is_digit c ≡ true → digits_or (a ∷ b ∷ c ∷ []) ≡ ((a - 48) * 10 + (b - 48)) * 10 + (c - 48)
-  unfolding all_digits number_from
-  all_right e f g = rw (e, f, g) (omega arith)
-
--- ---- what the number tells
 module _ (s : List ℕ) (at : ℕ) where
-  few : all_digits (three_at s at) ≡ true → number_from 0 (three_at s at) ≤ 999
+  pub few : all_digits (three_at s at) ≡ true → number_from 0 (three_at s at) ≤ 999
   unfolding all_digits number_from
   few e =
       let p = and_both (is_digit (byte_at s at)) (is_digit (byte_at s (at + 1)) && (is_digit (byte_at s (at + 2)) && true)) e in
@@ -43,22 +26,25 @@ module _ (s : List ℕ) (at : ℕ) where
       let r = and_both (is_digit (byte_at s (at + 2))) true q.1 in
       omega (arith, digit-bounds (byte_at s at) p.0, digit-bounds (byte_at s (at + 1)) q.0, digit-bounds (byte_at s (at + 2)) r.0)
 
-  pub told-wrong : 999 < decimals_or s at → has_decimals s at ≡ false
-  told-wrong = go (all_digits (three_at s at)) (eqb (byte_at s (at + 3)) 59) refl
+  pub told-wrong : decimals_in s at ≡ None → has_decimals s at ≡ false
+  told-wrong = go (all_digits (three_at s at)) (eqb (byte_at s (at + 3)) 59)
     where
-      go : (t e : Bool) → all_digits (three_at s at) ≡ t → 999 < pick e (pick t (number_from 0 (three_at s at)) 1000) 1000 → (t && e) ≡ false
-      go true true q h = absurd (omega (arith, few q))
-      go true false q h = refl
-      go false e q h = refl
+      go : (t e : Bool) → pick e (pick t (Some (number_from 0 (three_at s at))) None) None ≡ None → (t && e) ≡ false
+      go true true h = cc
+      go true false h = refl
+      go false e h = refl
 
-  pub told-right : decimals_or s at ≤ 999 → (has_decimals s at ≡ true) × (decimals_or s at ≡ number_from 0 (three_at s at))
-  told-right = go (all_digits (three_at s at)) (eqb (byte_at s (at + 3)) 59)
+  pub told-right : {k : ℕ} → decimals_in s at ≡ Some k → (has_decimals s at ≡ true) × ((number_from 0 (three_at s at) ≡ k) × (k ≤ 999))
+  told-right {k} = go (all_digits (three_at s at)) refl (eqb (byte_at s (at + 3)) 59)
     where
-      go : (t e : Bool) → pick e (pick t (number_from 0 (three_at s at)) 1000) 1000 ≤ 999 → ((t && e) ≡ true) × (pick e (pick t (number_from 0 (three_at s at)) 1000) 1000 ≡ number_from 0 (three_at s at))
-      go true true h = (refl, refl)
-      go true false h = absurd (omega arith)
-      go false true h = absurd (omega arith)
-      go false false h = absurd (omega arith)
+      go : (t : Bool) → all_digits (three_at s at) ≡ t → (e : Bool) → pick e (pick t (Some (number_from 0 (three_at s at))) None) None ≡ Some k
+          → ((t && e) ≡ true) × ((number_from 0 (three_at s at) ≡ k) × (k ≤ 999))
+      go true q true h =
+          let v : number_from 0 (three_at s at) ≡ k = cc in
+          (refl, (v, omega (arith, few q, v)))
+      go true q false h = cc
+      go false q true h = cc
+      go false q false h = cc
 
   -- all four bytes are there
   pub decimals-there : has_decimals s at ≡ true → at + 4 ≤ length s

@@ -1,5 +1,5 @@
 -- Where a numeral ends: a 0 in front stands alone, and after any other digit all that follow belong to it.
-use Prim.Native.Nat.{ℕ, suc, ◌+◌, ◌-◌, ◌≤◌, ◌<◌}
+use Rattle.std.proofs.Common.{ℕ, suc, ◌+◌, ◌-◌, ◌≤◌, ◌<◌, min}
 use mathlib.Core.Path.{◌≡◌, refl, sym, ap, ◌∙◌}
 use mathlib.Core.Bool.{Bool, true, false, ◌||◌}
 use mathlib.Core.List.{List, ◌∷◌}
@@ -15,8 +15,8 @@ use Rattle.numbers.proofs.ReadBack.{digit-bounds}
 use Rattle.terms.specs.Reply.{is, refused, need}
 use Rattle.partner.specs.declared.fields.Held.{Held}
 use Rattle.partner.specs.Form.{held, digits_from, is_numeral, numeral_of}
-use Rattle.partner.specs.Inner.{least, capped, mapped, Digits, Ended}
-use Rattle.partner.proofs.Capped.{least-is, digits-on, digits-out}
+use Rattle.partner.specs.Inner.{capped, mapped, Digits, Ended}
+use Rattle.partner.proofs.Capped.{digits-on, digits-out}
 
 -- past the end there is 0
 pub some_byte : (s : List ℕ) (i : ℕ) → 1 ≤ byte_at s i → i < length s
@@ -56,7 +56,7 @@ module _ (s : List ℕ) (at cap : ℕ) where
   none stop e = rw (digits-out s at e)
 
   -- asked still for the byte that ends it
-  settled : (t : Bool) (value next : ℕ) (r : Held) → least cap value ≡ r.value → next ≡ r.next → mapped (capped cap) (need t 20 at (is (held value (next + 1)))) ≡ need t 20 at (is (held r.value (r.next + 1)))
+  settled : (t : Bool) (value next : ℕ) (r : Held ℕ) → min cap value ≡ r.value → next ≡ r.next → mapped (capped cap) (need t 20 at (is (held value (next + 1)))) ≡ need t 20 at (is (held r.value (r.next + 1)))
   unfolding mapped need
   settled true value next r e f = rw (e, f)
   settled false value next r e f = refl
@@ -75,9 +75,9 @@ module _ (s : List ℕ) (at cap : ℕ) where
           rw (d, g, z, zero-in-front (byte_at s (at + 1)) (digits_from (drop (at + 1 + 1) s)), digit-other (byte_at s (at + 1)) stop f n)
       go stop n false f =
           let g = digits-out s (at + 1) f in
-          rw (d, g, z) (settled (eqb (byte_at s (at + 1)) stop) 0 (at + 1) (held 0 (at + 1)) (least-is cap 0 (omega arith)) refl)
+          rw (d, g, z) (settled (eqb (byte_at s (at + 1)) stop) 0 (at + 1) (held 0 (at + 1)) (omega arith) refl)
 
-  pub more-ends : (first : ℕ) (r : Held) → is_digit (byte_at s at) ≡ true → first ≡ byte_at s at - 48 → 1 ≤ first → Digits s (at + 1) first cap r → Ended s at cap r
+  pub more-ends : (first : ℕ) (r : Held ℕ) → is_digit (byte_at s at) ≡ true → first ≡ byte_at s at - 48 → 1 ≤ first → Digits s (at + 1) first cap r → Ended s at cap r
   unfolding numeral_of number_from
   more-ends first r e v p m = record { told = λ stop n. go stop n }
     where
@@ -96,7 +96,7 @@ module _ (s : List ℕ) (at cap : ℕ) where
       opened : 0 + (byte_at s at - 48) ≡ first
       opened = omega arith
 
-      whole : least cap (number_from (0 + (byte_at s at - 48)) more) ≡ r.value
+      whole : min cap (number_from (0 + (byte_at s at - 48)) more) ≡ r.value
       whole = rw opened (sym m.value)
 
       go : (stop : ℕ) → is_digit stop ≡ false → mapped (capped cap) (numeral_of s at stop) ≡ need (eqb (byte_at s r.next) stop) 20 at (is (held r.value (r.next + 1)))

@@ -16,8 +16,7 @@ use Rattle.numbers.proofs.ReadBack.{digit-is, digit-bounds, decimal-all, decimal
 use Rattle.terms.specs.Reply.{is, need, next}
 use Rattle.terms.proofs.Replies.{need-is, next-is}
 use Rattle.partner.specs.declared.fields.Held.{Held}
-use Rattle.partner.specs.declared.fields.Quantity.{Quantity}
-use Rattle.partner.specs.Form.{held, quantity, digits_from, is_numeral, numeral_of, three_at, has_decimals, is_letter, signed_by, amount_of, quantity_of}
+use Rattle.partner.specs.Form.{held, digits_from, is_numeral, numeral_of, three_at, has_decimals, is_letter, signed_by, amount_of, quantity_of}
 use Rattle.partner.specs.Line.{numeral, three, letter, quantity_bytes}
 use Rattle.partner.proofs.Numerals.{digits-end, digits-all, digits-split, decimal-numeral, numeral-decimal}
 use Rattle.partner.proofs.Spelled.{Spelled, spelled, both, front, back, place, byte, one}
@@ -32,7 +31,7 @@ module _ (s : List ℕ) (at stop : ℕ) where
       let l : at + length (decimal n) + 1 ≡ end = omega (arith, p.ends, length-append (decimal n) (stop ∷ [])) in
       rw (d, decimal-numeral n (omega arith), b, eq-eqb stop stop refl, decimal-number n h, l)
 
-  pub numeral-writes : (h : Held) → 1 ≤ stop → numeral_of s at stop ≡ is h → h.value < 10 ^ 20 → Spelled s at (numeral h.value stop) h.next
+  pub numeral-writes : (h : Held ℕ) → 1 ≤ stop → numeral_of s at stop ≡ is h → h.value < 10 ^ 20 → Spelled s at (numeral h.value stop) h.next
   unfolding numeral_of
   numeral-writes h t e l =
       let d = digits_from (drop at s) in
@@ -117,7 +116,7 @@ letter-again b size e = go (eqb b 73) refl e
 
 -- ---- an amount and its letter
 module _ (s : List ℕ) (at stop : ℕ) where
-  pub amount-reads : (z : ℤ) (end : ℕ) → nat_abs z ≤ 1000000 → Spelled s at (quantity_bytes z stop) end → quantity_of s at stop ≡ is (quantity z end)
+  pub amount-reads : (z : ℤ) (end : ℕ) → nat_abs z ≤ 1000000 → Spelled s at (quantity_bytes z stop) end → quantity_of s at stop ≡ is (held z end)
   unfolding quantity_of amount_of quantity_bytes next need
   amount-reads z end h p =
       let m = nat_abs z in
@@ -136,13 +135,13 @@ module _ (s : List ℕ) (at stop : ℕ) where
       let value : m / 1000 * 1000 + m % 1000 ≡ m = omega arith in
       rw (e, decimals, three-digits (m % 1000) (omega arith), b 3, three-number (m % 1000) (omega arith), value, b 4, last, b 5, letter-is z, eq-eqb stop stop refl, letter-signed z, over)
 
-  amount-spelled : (size : Held) → amount_of s at ≡ is size → size.value < 10 ^ 20 → Spelled s at (numeral (size.value / 1000) 44 ++ three (size.value % 1000) ++ (59 ∷ [])) size.next
+  amount-spelled : (size : Held ℕ) → amount_of s at ≡ is size → size.value < 10 ^ 20 → Spelled s at (numeral (size.value / 1000) 44 ++ three (size.value % 1000) ++ (59 ∷ [])) size.next
   unfolding amount_of
   amount-spelled size e l =
       let n = next-is (numeral_of s at 44) _ e in
       go n.0 n.1.0 n.1.1
     where
-      go : (mwh : Held) → numeral_of s at 44 ≡ is mwh
+      go : (mwh : Held ℕ) → numeral_of s at 44 ≡ is mwh
           → need (has_decimals s mwh.next) 20 at (is (held (mwh.value * 1000 + number_from 0 (three_at s mwh.next)) (mwh.next + 4))) ≡ is size
           → Spelled s at (numeral (size.value / 1000) 44 ++ three (size.value % 1000) ++ (59 ∷ [])) size.next
       go mwh f g =
@@ -157,20 +156,20 @@ module _ (s : List ℕ) (at stop : ℕ) where
           rw (← v, whole, part, three-again _ _ _ d, append_assoc (numeral mwh.value 44) (three_at s mwh.next) (59 ∷ []))
           (both s (numeral-writes s at 44 mwh (omega arith) f (omega arith)) (decimals-spelled s mwh.next n.0))
 
-  pub amount-writes : (q : Quantity) → 1 ≤ stop → quantity_of s at stop ≡ is q → nat_abs q.kwh < 10 ^ 20 → Spelled s at (quantity_bytes q.kwh stop) q.next
+  pub amount-writes : (q : Held ℤ) → 1 ≤ stop → quantity_of s at stop ≡ is q → nat_abs q.value < 10 ^ 20 → Spelled s at (quantity_bytes q.value stop) q.next
   unfolding quantity_of quantity_bytes
   amount-writes q t e l =
       let n = next-is (amount_of s at) _ e in
       go n.0 n.1.0 n.1.1
     where
-      go : (size : Held) → amount_of s at ≡ is size
+      go : (size : Held ℕ) → amount_of s at ≡ is size
           → need (is_letter (byte_at s size.next) size.value && eqb (byte_at s (size.next + 1)) stop) 20 size.next
-          (is (quantity (signed_by (byte_at s size.next) size.value) (size.next + 2))) ≡ is q
-          → Spelled s at (quantity_bytes q.kwh stop) q.next
+          (is (held (signed_by (byte_at s size.next) size.value) (size.next + 2))) ≡ is q
+          → Spelled s at (quantity_bytes q.value stop) q.next
       go size f g =
           let n = need-is _ _ _ _ g in
           let b = byte_at s size.next in
-          let v : quantity (signed_by b size.value) (size.next + 2) ≡ q = cc in
+          let v : held (signed_by b size.value) (size.next + 2) ≡ q = cc in
           let p = and_both (is_letter b size.value) _ n.0 in
           let a = letter-again b size.value p.0 in
           let ended : byte_at s (size.next + 1) ≡ stop = eqb-true _ stop p.1 in

@@ -3,13 +3,11 @@ use Prim.Native.Nat.{ℕ, ◌≤◌, ◌<◌}
 use mathlib.Core.Path.{◌≡◌, refl, ◌∙◌}
 use mathlib.Core.List.{List}
 use native.Mathlib.Omega.{arith}
-use native.Mathlib.Decide.{dec_lt}
 use borrow.Author.Tests.{le-leb, lt-leb}
 use Rattle.terms.specs.Reply.{Reply, is, refused, need, next}
 use Rattle.partner.specs.declared.fields.Held.{Held}
 use Rattle.partner.specs.Form.{numeral_of, quantity_of, unit_number_of, form_of}
 use Rattle.partner.specs.Inner.{number_cap, quarter_cap, capped, capped_kwh, capped_form, mapped, quantities_behind}
-use Rattle.partner.proofs.Capped.{least-is, least-cap}
 use Rattle.partner.proofs.Amounts.{Whole}
 
 -- ---- a reading of one thing after another
@@ -42,31 +40,22 @@ form-kept s =
     mapped-through capped_kwh capped_form (quantity_of s down.next 10) _ _ λ up.
     refl
 
+pub ruleset forming = (form-kept)
+
 -- ---- the unit's number
 module _ (s : List ℕ) where
   pub number-refused : {n p : ℕ} → numeral_of s 0 59 ≡ refused n p → unit_number_of s ≡ refused n p
   unfolding unit_number_of next
   number-refused e = rw e
 
-  module _ (m : Held) (w : Whole s 0 59 number_cap m) where
+  module _ (m : Held ℕ) (w : Whole s 0 59 number_cap m) where
     pub number-large : 65535 < m.value → unit_number_of s ≡ refused 20 0
     unfolding unit_number_of next need
     number-large h =
-        let v = w.one.value in
-        let big : 65535 < v = go (dec_lt v number_cap) in
-        rw (w.read, lt-leb v 65535 big)
-      where
-        go : Dec (w.one.value < number_cap) → 65535 < w.one.value
-        go (yes l) = omega (arith, w.value, least-is number_cap w.one.value (omega arith))
-        go (no l) = omega arith
+        rw (w.read, lt-leb w.one.value 65535 (omega (arith, w.value)))
 
     pub number-right : m.value ≤ 65535 → unit_number_of s ≡ is m
     unfolding unit_number_of next need
-    number-right h = go (dec_lt w.one.value number_cap)
-      where
-        go : Dec (w.one.value < number_cap) → unit_number_of s ≡ is m
-        go (yes l) =
-            let q = least-is number_cap w.one.value (omega arith) in
-            let same : w.one.value ≡ m.value = omega (arith, w.value) in
-            rw (w.read, le-leb w.one.value 65535 (omega arith), same, w.next)
-        go (no l) = absurd (omega (arith, w.value, least-cap number_cap w.one.value (omega arith)))
+    number-right h =
+        let same : w.one.value ≡ m.value = omega (arith, w.value) in
+        rw (w.read, le-leb w.one.value 65535 (omega (arith, w.value)), same, w.next)

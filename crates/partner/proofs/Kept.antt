@@ -1,5 +1,5 @@
 -- No limit is told by a cap: a number that lies within its limits was not changed, and one that lies beyond still does.
-use Prim.Native.Nat.{ℕ, zero, suc, ◌+◌, ◌/◌, ◌≤◌, ◌<◌}
+use Rattle.std.proofs.Common.{ℕ, zero, suc, ◌+◌, ◌/◌, ◌≤◌, ◌<◌, min}
 use mathlib.Core.Path.{◌≡◌, refl, sym, ◌∙◌}
 use mathlib.Core.Bool.{Bool, true, false}
 use native.Mathlib.Decide.{dec_lt}
@@ -15,24 +15,25 @@ use Rattle.terms.specs.Reply.{Reply, need}
 use Rattle.partner.specs.declared.form.Form.{Form}
 use Rattle.partner.specs.declared.limits.Places.{Places}
 use Rattle.partner.specs.Line.{within, line_in}
-use Rattle.partner.specs.Inner.{least, mwh_cap, quarter_cap, least_kwh, least_z, capped_form}
+use Rattle.partner.specs.Inner.{quarter_cap, least_kwh, least_z, capped_form}
 use Rattle.partner.proofs.RoundTrip.{Limited}
-use Rattle.partner.proofs.Capped.{least-is, least-cap}
 
 -- ---- a quarter
-quarter-kept : (n : ℕ) → ltb (least quarter_cap n) 100 ≡ ltb n 100
+quarter-kept : (n : ℕ) → ltb (min quarter_cap n) 100 ≡ ltb n 100
 quarter-kept n = go (dec_lt n quarter_cap)
   where
-    go : Dec (n < quarter_cap) → ltb (least quarter_cap n) 100 ≡ ltb n 100
-    go (yes l) = rw (least-is quarter_cap n (omega arith))
-    go (no l) = rw (least-cap quarter_cap n (omega arith), le-ltb n 100 (omega arith))
+    go : Dec (n < quarter_cap) → ltb (min quarter_cap n) 100 ≡ ltb n 100
+    go (yes l) =
+        let e : min quarter_cap n ≡ n = omega arith in
+        rw e
+    go (no l) = le-ltb (min quarter_cap n) 100 (omega arith) ∙ sym (le-ltb n 100 (omega arith))
 
 -- ---- an amount
 kwh-is : (n : ℕ) → n / 1000 < 1001 → least_kwh n ≡ n
-kwh-is n h = omega (arith, least-is mwh_cap (n / 1000) (omega arith))
+kwh-is n h = omega arith
 
 kwh-large : (n : ℕ) → 1001 ≤ n / 1000 → 1000000 < least_kwh n
-kwh-large n h = omega (arith, least-cap mwh_cap (n / 1000) h)
+kwh-large n h = omega arith
 
 amount-is : (z : ℤ) → nat_abs z / 1000 < 1001 → least_z z ≡ z
 amount-is (pos n) h = rw (kwh-is n h)
@@ -88,7 +89,9 @@ pub within-kept : {A : Type 0} (f : Form) (at : Places) (rest : Reply A) → wit
 unfolding within
 within-kept f at rest =
     rw
-    (quarter-kept f.quarter.value, range-kept f.n.kwh, range-kept f.step_down.kwh, range-kept f.step_up.kwh, order-kept f.step_down.kwh f.step_up.kwh at.step_down at.step_up rest)
+    (quarter-kept f.quarter.value, range-kept f.n.value, range-kept f.step_down.value, range-kept f.step_up.value, order-kept f.step_down.value f.step_up.value at.step_down at.step_up rest)
 
 pub line_kept : (f : Form) → Limited (line_in f) → line_in (capped_form f) ≡ line_in f
-line_kept f p = rw (least-is quarter_cap f.quarter.value (omega (arith, ltb-true f.quarter.value 100 p.quarter)), range-is f.n.kwh p.n, range-is f.step_down.kwh p.down, range-is f.step_up.kwh p.up)
+line_kept f p =
+    let e : min quarter_cap f.quarter.value ≡ f.quarter.value = omega (arith, ltb-true f.quarter.value 100 p.quarter) in
+    rw (e, range-is f.n.value p.n, range-is f.step_down.value p.down, range-is f.step_up.value p.up)

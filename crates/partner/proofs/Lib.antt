@@ -7,7 +7,6 @@ pub mod Letters
 pub mod Forms
 pub mod Kept
 pub mod Bounds
-pub mod Back
 pub mod Lays
 pub mod Numerals
 pub mod Spelled

@@ -1,4 +1,5 @@
 -- What follows of lines from their one spelling: how long one is, that two of the same values are the same bytes, that what follows a line is not read, and which refusal tells of a value past its limit.
+use Rattle.std.specs.Prelude.{Result}
 use Prim.Native.Nat.{ℕ, ◌/◌, ◌≤◌, ◌<◌}
 use mathlib.Core.Path.{◌≡◌, sym, ap, ◌∙◌}
 use mathlib.Core.Bool.{true, false}
@@ -10,9 +11,8 @@ use lib.ListN.{length, take, drop, length-append}
 use lib.Seq.{take_at}
 use Rattle.numbers.proofs.Digits.{some-digit, no_more}
 use Rattle.terms.specs.Reply.{is, refused, need, next}
-use Rattle.terms.specs.Refusals.{answer}
+use Rattle.terms.specs.Refusals.{reply}
 use Rattle.terms.specs.Checks.{in_range}
-use Rattle.terms.specs.declared.refusal.Answer.{Answer}
 use Rattle.terms.proofs.Passing.{range-within}
 use Rattle.writers.specs.Writing.{room_for}
 use Rattle.writers.proofs.Back.{front}
@@ -23,6 +23,7 @@ use Rattle.partner.specs.Form.{form_of}
 use Rattle.partner.specs.Line.{within, read_of, quantity_bytes, line_of, at_zero, write_of, LineWritten}
 use Rattle.partner.proofs.Lays.{amount-long}
 use Rattle.partner.proofs.RoundTrip.{Limited, limits-passed, line_reads, line-accepted-back, was_read, line-bytes-again}
+use Rattle.terms.specs.declared.refusal.Refusal.{Refusal}
 
 -- ---- a line that was read
 module _ (s : List ℕ) (l : LineRead) (e : read_of s ≡ is l) where
@@ -39,14 +40,14 @@ pub line-spelled-once : (s t : List ℕ) (l m : LineRead) → read_of s ≡ is l
 line-spelled-once s t l m e f v = line-bytes-again s l e ∙ ap line_of v ∙ sym (line-bytes-again t m f)
 
 -- ---- "What our writers make reads back as the values given; what is accepted, written again, gives the same bytes."
-pub line-back : (l : Line) {entry exit : List ℕ} {r : Answer} {n : ℕ} → l.number ≤ 65535 → answer r ≡ is n → LineWritten l entry r exit
+pub line-back : (l : Line) {entry exit : List ℕ} {r : Result ℕ Refusal} {n : ℕ} → l.number ≤ 65535 → reply r ≡ is n → LineWritten l entry r exit
     → read_of exit ≡ is (record { line = l; used = n })
 line-back l {entry} {n = n} small done w =
     let f = front (line_of l) entry w done in
     rw f.1 (line-accepted-back l (drop n entry) (length entry) small f.0)
 
-pub line-again : (s : List ℕ) (l : LineRead) → read_of s ≡ is l → (lent : List ℕ) {left : List ℕ} {r : Answer} → l.used ≤ length lent → LineWritten l.line lent r left
-    → (answer r ≡ is l.used) × (take l.used left ≡ take l.used s)
+pub line-again : (s : List ℕ) (l : LineRead) → read_of s ≡ is l → (lent : List ℕ) {left : List ℕ} {r : Result ℕ Refusal} → l.used ≤ length lent → LineWritten l.line lent r left
+    → (reply r ≡ is l.used) × (take l.used left ≡ take l.used s)
 unfolding write_of room_for need
 line-again s l e lent fits w =
     let n = used-length s l e in
@@ -93,15 +94,15 @@ module _ (s : List ℕ) (f : Form) (e : form_of s ≡ is f) where
 
   -- an amount: 8 at its own start, the first of them
   module _ (q : f.quarter.value < 100) where
-    pub n-too-large : in_range f.n.kwh ≡ false → read_of s ≡ refused 8 f.quarter.next
+    pub n-too-large : in_range f.n.value ≡ false → read_of s ≡ refused 8 f.quarter.next
     unfolding read_of within next need
     n-too-large h = rw (e, lt-ltb f.quarter.value 100 q, h)
 
-    module _ (n : in_range f.n.kwh ≡ true) where
-      pub down-too-large : in_range f.step_down.kwh ≡ false → read_of s ≡ refused 8 f.n.next
+    module _ (n : in_range f.n.value ≡ true) where
+      pub down-too-large : in_range f.step_down.value ≡ false → read_of s ≡ refused 8 f.n.next
       unfolding read_of within next need
       down-too-large h = rw (e, lt-ltb f.quarter.value 100 q, n, h)
 
-      pub up-too-large : in_range f.step_down.kwh ≡ true → in_range f.step_up.kwh ≡ false → read_of s ≡ refused 8 f.step_down.next
+      pub up-too-large : in_range f.step_down.value ≡ true → in_range f.step_up.value ≡ false → read_of s ≡ refused 8 f.step_down.next
       unfolding read_of within next need
       up-too-large d h = rw (e, lt-ltb f.quarter.value 100 q, n, d, h)

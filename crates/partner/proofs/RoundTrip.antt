@@ -19,7 +19,7 @@ use Rattle.partner.specs.declared.form.Form.{Form}
 use Rattle.partner.specs.declared.limits.Places.{Places}
 use Rattle.partner.specs.declared.line.Line.{Line}
 use Rattle.partner.specs.declared.line.LineRead.{LineRead}
-use Rattle.partner.specs.Form.{held, quantity, numeral_of, quantity_of, unit_number_of, form_of}
+use Rattle.partner.specs.Form.{held, numeral_of, quantity_of, unit_number_of, form_of}
 use Rattle.partner.specs.Line.{within, line_in, starts_in, read_of, numeral, quantity_bytes, line_of, at_zero, write_of}
 use Rattle.partner.proofs.Spelled.{Spelled, both, parts, whole}
 use Rattle.partner.proofs.FieldTrips.{numeral_reads, numeral-writes, amount-reads, amount-writes}
@@ -57,7 +57,7 @@ pub record Formed (s : List ℕ) (f : Form) : Type 0 where
   pub up : quantity_of s f.step_down.next 10 ≡ is f.step_up
 
 module _ (s : List ℕ) where
-  number_is : (h : Held) → unit_number_of s ≡ is h → (numeral_of s 0 59 ≡ is h) × (h.value ≤ 65535)
+  number_is : (h : Held ℕ) → unit_number_of s ≡ is h → (numeral_of s 0 59 ≡ is h) × (h.value ≤ 65535)
   unfolding unit_number_of
   number_is h e =
       let a = next-is (numeral_of s 0 59) _ e in
@@ -98,9 +98,9 @@ form_with l at end =
     record {
       number = held l.number at.quarter;
       quarter = held l.quarter at.n;
-      n = quantity l.n.0 at.step_down;
-      step_down = quantity l.margins.step_down at.step_up;
-      step_up = quantity l.margins.step_up end;
+      n = held l.n.0 at.step_down;
+      step_down = held l.margins.step_down at.step_up;
+      step_up = held l.margins.step_up end;
     }
 
 module _ (l : Line) (more : List ℕ) (number : l.number ≤ 65535) (p : Limited l) where
@@ -159,9 +159,9 @@ module _ (s : List ℕ) where
   unfolding line_of
   form-writes f r p =
       let q = ltb-true f.quarter.value 100 p.quarter in
-      let n = range-within f.n.kwh p.n in
-      let d = range-within f.step_down.kwh p.down in
-      let u = range-within f.step_up.kwh p.up in
+      let n = range-within f.n.value p.n in
+      let d = range-within f.step_down.value p.down in
+      let u = range-within f.step_up.value p.up in
       let a = numeral-writes s 0 59 f.number (omega arith) r.number (omega (arith, r.small)) in
       let b = numeral-writes s f.number.next 59 f.quarter (omega arith) r.quarter (omega arith) in
       let c = amount-writes s f.quarter.next 59 f.n (omega arith) r.n (omega arith) in

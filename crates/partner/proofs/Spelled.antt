@@ -1,13 +1,13 @@
 -- Bytes that stand at a place of a text: run behind run, and one by one.
-use Prim.Native.Nat.{ℕ, ◌+◌, ◌≤◌, ◌<◌}
+use Prim.Native.Nat.{ℕ, ◌+◌, ◌≤◌}
 use mathlib.Core.Path.{◌≡◌, refl, sym, ◌∙◌}
 use mathlib.Core.List.{List, [], ◌∷◌, ◌++◌, append_assoc}
-use native.Mathlib.Decide.{dec_lt}
 use native.Mathlib.Omega.{arith}
 use native.Mathlib.Numerals.{add-one}
-use lib.ListN.{length, drop, length-append, get_or-eq_default}
+use lib.ListN.{length, drop, length-append}
 use lib.Seq.{drop-append_seam, drop-drop, drop-cons, get_or-drop, get_or_at}
 use Rattle.numbers.specs.Bytes.{byte_at}
+use Rattle.partner.proofs.Ends.{some_byte}
 
 -- these bytes stand from a place on, and end is the place after them
 pub record Spelled (s : List ℕ) (at : ℕ) (bytes : List ℕ) (end : ℕ) : Type 0 where
@@ -50,17 +50,8 @@ module _ (s : List ℕ) where
   byte {at} {end} xs b ys p =
       place at (length xs) (p.so ∙ append_assoc xs (b ∷ ys) (drop end s)) ∙ get_or_at xs b (ys ++ drop end s) 0 (length xs) refl
 
-  present : (at : ℕ) → 1 ≤ byte_at s at → at < length s
-  present at h = go (dec_lt at (length s))
-    where
-      go : Dec (at < length s) → at < length s
-      go (yes l) = l
-      go (no l) =
-          let e = get_or-eq_default s 0 {n = at} (omega arith) in
-          omega arith
-
   pub one : (at end : ℕ) → end ≡ at + 1 → 1 ≤ byte_at s at → Spelled s at (byte_at s at ∷ []) end
-  one at end e h = record { so = rw (e, add-one at) (drop-cons s at 0 (present at h)); ends = e }
+  one at end e h = record { so = rw (e, add-one at) (drop-cons s at 0 (some_byte s at h)); ends = e }
 
 pub whole : (bytes rest : List ℕ) → Spelled (bytes ++ rest) 0 bytes (length bytes)
 whole bytes rest = record { so = rw (drop-append_seam bytes rest); ends = omega arith }

@@ -5,16 +5,11 @@ use Rattle.numbers.specs.Choice.{pick}
 use Rattle.numbers.specs.Decimal.{is_digit, all_digits, number_from}
 use Rattle.terms.specs.Reply.{Reply, is, need, next}
 use Rattle.partner.specs.declared.fields.Held.{Held}
-use Rattle.partner.specs.declared.fields.Quantity.{Quantity}
 use Rattle.partner.specs.declared.form.Form.{Form}
 
--- a number read, of any size, and the place after the byte that ends it
-abbrev pub held : ℕ → ℕ → Held
+-- a number read, of any size, or a signed amount in kWh, and the place after the byte that ends its field
+abbrev pub held : {A : Type 0} → A → ℕ → Held A
 held value next = record { value = value; next = next }
-
--- a signed amount in kWh, and the place after the byte that ends its letter
-abbrev pub quantity : ℤ → ℕ → Quantity
-quantity kwh next = record { kwh = kwh; next = next }
 
 -- ---- numerals
 -- the digits in front
@@ -27,12 +22,12 @@ abbrev pub is_numeral : List ℕ → Bool
 is_numeral d = ltb 0 (length d) && (eqb (length d) 1 || not (eqb (byte_at d 0) 48))
 
 -- as many digits as there are, and the byte that ends them
-abbrev pub numeral_by : List ℕ → List ℕ → ℕ → ℕ → Reply Held
+abbrev pub numeral_by : List ℕ → List ℕ → ℕ → ℕ → Reply (Held ℕ)
 numeral_by d s at stop =
     need (is_numeral d && eqb (byte_at s (at + length d)) stop) 20 at
     (is (held (number_from 0 d) (at + length d + 1)))
 
-unfoldable pub numeral_of : List ℕ → ℕ → ℕ → Reply Held
+unfoldable pub numeral_of : List ℕ → ℕ → ℕ → Reply (Held ℕ)
 numeral_of s at stop = numeral_by (digits_from (drop at s)) s at stop
 
 -- ---- amounts: MWh with a comma and exactly three decimals
@@ -44,7 +39,7 @@ abbrev pub has_decimals : List ℕ → ℕ → Bool
 has_decimals s at = all_digits (three_at s at) && eqb (byte_at s (at + 3)) 59
 
 -- an amount in kWh; whatever is wrong in it, its start is the place
-unfoldable pub amount_of : List ℕ → ℕ → Reply Held
+unfoldable pub amount_of : List ℕ → ℕ → Reply (Held ℕ)
 amount_of s at =
     next (numeral_of s at 44) λ mwh.
     need (has_decimals s mwh.next) 20 at
@@ -58,15 +53,15 @@ abbrev pub signed_by : ℕ → ℕ → ℤ
 signed_by b size = pick (eqb b 80) (neg_ℤ (pos size)) (pos size)
 
 -- an amount and its letter, a field each
-unfoldable pub quantity_of : List ℕ → ℕ → ℕ → Reply Quantity
+unfoldable pub quantity_of : List ℕ → ℕ → ℕ → Reply (Held ℤ)
 quantity_of s at stop =
     next (amount_of s at) λ size.
     need (is_letter (byte_at s size.next) size.value && eqb (byte_at s (size.next + 1)) stop) 20 size.next
-    (is (quantity (signed_by (byte_at s size.next) size.value) (size.next + 2)))
+    (is (held (signed_by (byte_at s size.next) size.value) (size.next + 2)))
 
 -- ---- the eight fields
 -- a unit number above 65535 is wrong, not too large
-unfoldable pub unit_number_of : List ℕ → Reply Held
+unfoldable pub unit_number_of : List ℕ → Reply (Held ℕ)
 unit_number_of s =
     next (numeral_of s 0 59) λ number.
     need (leb number.value 65535) 20 0

@@ -1,32 +1,22 @@
 -- What inner functions ask of each other: no promise rests on it.
-use Rattle.std.specs.Prelude.{ℕ, ◌+◌, ◌*◌, ◌-◌, ◌/◌, ◌%◌, ◌≤◌, ◌≡◌, true, false, List, ◌++◌, ltb, eqb, ℤ, pos, negsuc, neg_ℤ, length, drop}
+use Rattle.std.specs.Prelude.{ℕ, ◌+◌, ◌*◌, ◌-◌, ◌/◌, ◌%◌, ◌≤◌, ◌≡◌, true, false, min, List, Option, Some, None, eqb, ℤ, pos, negsuc, neg_ℤ, length, drop}
 use Rattle.std.specs.Int.Signed.{le_z}
 use Rattle.numbers.specs.Bytes.{byte_at, laid_at}
 use Rattle.numbers.specs.Choice.{pick}
 use Rattle.numbers.specs.Decimal.{is_digit, all_digits, number_from}
 use Rattle.terms.specs.Checks.{in_range}
 use Rattle.terms.specs.Reply.{Reply, is, refused, need, next}
+use Rattle.terms.specs.declared.quantity.Direction.{Direction}
+use Rattle.terms.specs.declared.quantity.Direction.TheVariants as D
 use Rattle.terms.specs.declared.quantity.Margins.{Margins}
 use Rattle.partner.specs.declared.fields.Held.{Held}
-use Rattle.partner.specs.declared.fields.HeldAnswer.{HeldAnswer}
-use Rattle.partner.specs.declared.fields.HeldAnswer.TheVariants as H
-use Rattle.partner.specs.declared.fields.Letter.{Letter}
-use Rattle.partner.specs.declared.fields.Letter.TheVariants as L
-use Rattle.partner.specs.declared.fields.Quantity.{Quantity}
-use Rattle.partner.specs.declared.fields.QuantityAnswer.{QuantityAnswer}
-use Rattle.partner.specs.declared.fields.QuantityAnswer.TheVariants as Q
 use Rattle.partner.specs.declared.form.Form.{Form}
-use Rattle.partner.specs.declared.form.FormAnswer.{FormAnswer}
-use Rattle.partner.specs.declared.form.FormAnswer.TheVariants as F
 use Rattle.partner.specs.declared.limits.Places.{Places}
 use Rattle.partner.specs.declared.line.LineRead.{LineRead}
-use Rattle.partner.specs.Form.{held, quantity, digits_from, numeral_of, quantity_of, three_at, is_letter}
-use Rattle.partner.specs.Line.{line_in, starts_in, within, numeral, quantity_bytes}
+use Rattle.partner.specs.Form.{held, digits_from, numeral_of, quantity_of, three_at, is_letter}
+use Rattle.partner.specs.Line.{line_in, starts_in, within}
 
 -- ---- numbers of any length, kept at no more than a cap
-abbrev pub least : ℕ → ℕ → ℕ
-least cap n = pick (ltb n cap) n cap
-
 -- no cap is above that of the unit numbers
 abbrev pub number_cap : ℕ
 number_cap = 65536
@@ -37,22 +27,22 @@ quarter_cap = 100
 abbrev pub mwh_cap : ℕ
 mwh_cap = 1001
 
-abbrev pub capped : ℕ → Held → Held
-capped cap h = held (least cap h.value) h.next
+abbrev pub capped : ℕ → Held ℕ → Held ℕ
+capped cap h = held (min cap h.value) h.next
 
 -- an amount in kWh whose whole MWh are kept so
 abbrev pub least_kwh : ℕ → ℕ
-least_kwh n = least mwh_cap (n / 1000) * 1000 + n % 1000
+least_kwh n = min mwh_cap (n / 1000) * 1000 + n % 1000
 
 abbrev pub least_z : ℤ → ℤ
 least_z (pos n) = pos (least_kwh n)
 least_z (negsuc n) = neg_ℤ (pos (least_kwh (n + 1)))
 
-abbrev pub capped_amount : Held → Held
+abbrev pub capped_amount : Held ℕ → Held ℕ
 capped_amount h = held (least_kwh h.value) h.next
 
-abbrev pub capped_kwh : Quantity → Quantity
-capped_kwh q = quantity (least_z q.kwh) q.next
+abbrev pub capped_kwh : Held ℤ → Held ℤ
+capped_kwh q = held (least_z q.value) q.next
 
 abbrev pub capped_form : Form → Form
 capped_form f =
@@ -71,8 +61,8 @@ mapped f (refused number place) = refused number place
 
 -- ---- fields
 -- the digits from a place on, behind a number that is read already: the number, and where they end
-pub record Digits (s : List ℕ) (at first cap : ℕ) (r : Held) : Type 0 where
-  pub value : r.value ≡ least cap (number_from first (digits_from (drop at s)))
+pub record Digits (s : List ℕ) (at first cap : ℕ) (r : Held ℕ) : Type 0 where
+  pub value : r.value ≡ min cap (number_from first (digits_from (drop at s)))
   pub next : r.next ≡ at + length (digits_from (drop at s))
 
 -- a digit stands at a place, and this is its number
@@ -86,84 +76,57 @@ pub record Stops (stop : ℕ) : Type 0 where
   pub some : 1 ≤ stop
 
 -- where a numeral ends, whichever byte is to end it: there that byte is all that is asked still
-pub record Ended (s : List ℕ) (at cap : ℕ) (r : Held) : Type 0 where
+pub record Ended (s : List ℕ) (at cap : ℕ) (r : Held ℕ) : Type 0 where
   pub told : (stop : ℕ) → is_digit stop ≡ false → mapped (capped cap) (numeral_of s at stop) ≡ need (eqb (byte_at s r.next) stop) 20 at (is (held r.value (r.next + 1)))
 
--- the number of these digits, or one that is above every number of three
-abbrev pub digits_or : List ℕ → ℕ
-digits_or d = pick (all_digits d) (number_from 0 d) 1000
+-- the number of these digits, if they are digits
+abbrev pub digits_in : List ℕ → Option ℕ
+digits_in d = pick (all_digits d) (Some (number_from 0 d)) None
 
--- that of three decimals
-abbrev pub decimals_or : List ℕ → ℕ → ℕ
-decimals_or s at = pick (eqb (byte_at s (at + 3)) 59) (digits_or (three_at s at)) 1000
+-- that of three decimals and the `;` that ends them
+abbrev pub decimals_in : List ℕ → ℕ → Option ℕ
+decimals_in s at = pick (eqb (byte_at s (at + 3)) 59) (digits_in (three_at s at)) None
 
-abbrev pub letter_by : ℕ → ℕ → Letter
-letter_by b size = pick (is_letter b size) (pick (eqb b 80) L.Withdrawal L.Injection) L.Wrong
+abbrev pub letter_by : ℕ → ℕ → Option Direction
+letter_by b size = pick (is_letter b size) (Some (pick (eqb b 80) D.Withdrawals D.Injections)) None
 
-abbrev pub letter_at : List ℕ → ℕ → ℕ → ℕ → Letter
-letter_at s at size stop = pick (eqb (byte_at s (at + 1)) stop) (letter_by (byte_at s at) size) L.Wrong
+abbrev pub letter_at : List ℕ → ℕ → ℕ → ℕ → Option Direction
+letter_at s at size stop = pick (eqb (byte_at s (at + 1)) stop) (letter_by (byte_at s at) size) None
+
+-- an amount with the sign of its direction
+abbrev pub signed_in : Direction → ℕ → ℤ
+signed_in D.Injections size = pos size
+signed_in D.Withdrawals size = neg_ℤ (pos size)
 
 -- an amount and what its letter says
-abbrev pub quantity_by : Letter → Held → Reply Quantity
-quantity_by L.Injection size = is (quantity (pos size.value) (size.next + 2))
-quantity_by L.Withdrawal size = is (quantity (neg_ℤ (pos size.value)) (size.next + 2))
-quantity_by L.Wrong size = refused 20 size.next
+abbrev pub quantity_by : Option Direction → Held ℕ → Reply (Held ℤ)
+quantity_by (Some d) size = is (held (signed_in d size.value) (size.next + 2))
+quantity_by None size = refused 20 size.next
 
 -- a line's three quantities, kept so, behind its two numbers
-unfoldable pub quantities_behind : List ℕ → Held → Held → Reply Form
+unfoldable pub quantities_behind : List ℕ → Held ℕ → Held ℕ → Reply Form
 quantities_behind s number quarter =
     next (mapped capped_kwh (quantity_of s quarter.next 59)) λ n.
     next (mapped capped_kwh (quantity_of s n.next 59)) λ down.
     next (mapped capped_kwh (quantity_of s down.next 10)) λ up.
     is (record { number = number; quarter = quarter; n = n; step_down = down; step_up = up })
 
--- ---- answers as replies: a field that is not in its form is refused by 20 at its place
-abbrev pub held_reply : HeldAnswer → Reply Held
-held_reply (H.Is h) = is h
-held_reply (H.Wrong place) = refused 20 place
-
-abbrev pub held_place : HeldAnswer → ℕ
-held_place (H.Is h) = 0
-held_place (H.Wrong place) = place
-
-abbrev pub quantity_reply : QuantityAnswer → Reply Quantity
-quantity_reply (Q.Is q) = is q
-quantity_reply (Q.Wrong place) = refused 20 place
-
-abbrev pub quantity_place : QuantityAnswer → ℕ
-quantity_place (Q.Is q) = 0
-quantity_place (Q.Wrong place) = place
-
-abbrev pub form_reply : FormAnswer → Reply Form
-form_reply (F.Is f) = is f
-form_reply (F.Wrong place) = refused 20 place
-
-abbrev pub form_place : FormAnswer → ℕ
-form_place (F.Is f) = 0
-form_place (F.Wrong place) = place
-
 -- ---- limits
 -- those of the margins
-unfoldable pub margins_within : Margins → Places → Reply ℕ
+unfoldable pub margins_within : Margins → Places → Reply (Unit {0})
 margins_within m at =
     need (in_range m.step_down) 8 at.step_down
     (need (in_range m.step_up) 8 at.step_up
     (need (le_z m.step_down m.step_up) 9 at.step_up
-    (is 0)))
+    (is tt)))
 
 -- a line whose form is right, by its limits
 unfoldable pub line_by : Form → Reply LineRead
 line_by f = within (line_in f) (starts_in f) (is (record { line = line_in f; used = f.step_up.next }))
 
 -- ---- writing
--- these bytes are laid from a place on, and r is the place after them
+-- these bytes are laid from a place on, r is the place after them, and the room is as long as it was
 pub record Lays (entry : List ℕ) (at : ℕ) (bytes : List ℕ) (r : ℕ) (exit : List ℕ) : Type 0 where
   pub room : exit ≡ laid_at entry at bytes
   pub after : r ≡ at + length bytes
-
--- the parts of a line before its nomination, and behind it
-abbrev pub numbers_bytes : ℕ → ℕ → List ℕ
-numbers_bytes number quarter = numeral number 59 ++ numeral quarter 59
-
-abbrev pub margins_bytes : Margins → List ℕ
-margins_bytes m = quantity_bytes m.step_down 59 ++ quantity_bytes m.step_up 10
+  pub long : length exit ≡ length entry

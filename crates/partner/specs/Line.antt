@@ -1,19 +1,16 @@
 -- "Read our partners' export" (02, §7): the limits of a line's values, a line read, and a line written.
-use Rattle.std.specs.Prelude.{ℕ, ◌/◌, ◌%◌, List, [], ◌∷◌, ◌++◌, ltb, ℤ, pos, negsuc, nat_abs, length}
+use Rattle.std.specs.Prelude.{ℕ, ◌/◌, ◌%◌, List, [], ◌∷◌, ◌++◌, ltb, ℤ, pos, negsuc, nat_abs, length, Result}
 use Rattle.std.specs.Int.Signed.{le_z}
 use Rattle.numbers.specs.Decimal.{digit, decimal}
 use Rattle.terms.specs.Reply.{Reply, is, need, next}
-use Rattle.terms.specs.Refusals.{refusal}
 use Rattle.terms.specs.Checks.{in_range}
-use Rattle.terms.specs.declared.refusal.Answer.{Answer}
 use Rattle.writers.specs.Writing.{Wrote, room_for}
 use Rattle.partner.specs.declared.form.Form.{Form}
 use Rattle.partner.specs.declared.limits.Places.{Places}
 use Rattle.partner.specs.declared.line.Line.{Line}
 use Rattle.partner.specs.declared.line.LineRead.{LineRead}
-use Rattle.partner.specs.declared.line.LineAnswer.{LineAnswer}
-use Rattle.partner.specs.declared.line.LineAnswer.TheVariants as L
 use Rattle.partner.specs.Form.{form_of}
+use Rattle.terms.specs.declared.refusal.Refusal.{Refusal}
 
 -- ---- limits: 4, then 8 for N, M- and M+, then 9, each at the place given for it: its field's start for a line read, 0 for one written
 unfoldable pub within : {A : Type 0} → Line → Places → Reply A → Reply A
@@ -31,8 +28,8 @@ line_in f =
     record {
       number = f.number.value;
       quarter = f.quarter.value;
-      n = record { 0 = f.n.kwh };
-      margins = record { step_down = f.step_down.kwh; step_up = f.step_up.kwh };
+      n = record { 0 = f.n.value };
+      margins = record { step_down = f.step_down.value; step_up = f.step_up.value };
     }
 
 -- a field starts where the one before it ends; an amount's own start counts, not its letter's
@@ -45,11 +42,6 @@ read_of s =
     next (form_of s) λ f.
     within (line_in f) (starts_in f)
     (is (record { line = line_in f; used = f.step_up.next }))
-
--- an answer as a reply
-abbrev pub line_reply : LineAnswer → Reply LineRead
-line_reply (L.Is l) = is l
-line_reply (L.Refused r) = refusal r
 
 -- ---- a line written
 -- a number and the byte that ends it
@@ -84,5 +76,5 @@ at_zero = record { quarter = 0; n = 0; step_down = 0; step_up = 0 }
 unfoldable pub write_of : Line → ℕ → Reply ℕ
 write_of l room = within l at_zero (room_for (length (line_of l)) room)
 
-abbrev pub LineWritten : Line → List ℕ → Answer → List ℕ → Type 0
+abbrev pub LineWritten : Line → List ℕ → Result ℕ Refusal → List ℕ → Type 0
 LineWritten l entry r exit = Wrote (write_of l (length entry)) (line_of l) entry r exit

@@ -1,115 +1,70 @@
 // The kinds of field of a line. A number of any length is read to its end and kept at no more than a cap, so that nothing wraps.
 ghost use Rattle.std.specs.Prelude.{◌≡◌, [], ◌∷◌, ◌+◌, ◌≤◌, ◌<◌, length};
+ghost use Rattle.terms.specs.declared.refusal.Why.TheVariants as W;
+ghost use Rattle.terms.specs.Refusals.{reply};
 ghost use Rattle.partner.specs.Form.{numeral_of, amount_of, quantity_of};
-ghost use Rattle.partner.specs.Inner.{least, number_cap, capped, capped_amount, capped_kwh, mapped, Digits, Opens, Stops, Ended, digits_or, decimals_or, letter_by, letter_at, quantity_by, held_reply, held_place, quantity_reply, quantity_place};
+ghost use Rattle.partner.specs.Inner.{number_cap, capped, capped_amount, capped_kwh, mapped, Digits, Opens, Stops, Ended, digits_in, decimals_in, letter_by, letter_at, signed_in};
 
 use numbers::bytes::byte;
 use numbers::decimal::digit_of;
+use terms::quantity::Direction;
+use terms::refusal::{Refusal, Why};
 
-pub const SEMICOLON: u8 = 59;
+pub const SEMICOLON: u8 = b';';
 
-pub const COMMA: u8 = 44;
+pub const COMMA: u8 = b',';
 
-pub const LINE_FEED: u8 = 10;
+pub const LINE_FEED: u8 = b'\n';
 
 pub const INJECTION: u8 = b'I';
 
 pub const WITHDRAWAL: u8 = b'P';
 
+// The digit 0. The digits of a numeral are read by it, not by `digit_of`, whose Option takes a twentieth more instructions there; tests/bench.
+const ZERO: u32 = 48;
+
 // One more than the most whole MWh of an amount, 1000.
 const MWH_CAP: u32 = 1001;
 
-// No three decimals come to it.
-const NONE: u32 = 1000;
+// Bytes and place stay two parameters: each place is what the field before it told, so that a struct of both would be made anew at every call. `cap ≤ number_cap` stays a clause of three private functions: a type for it would hold but the caps of their three callers.
 
-// A number that was read, and the place after the byte that ends its field.
-#[derive(Clone, Copy)]
-pub struct Held {
-    pub value: u32,
+// A value that was read, and the place after the byte that ends its field.
+#[derive(Clone, Copy, PartialEq, Eq, Debug)]
+pub struct Held<T> {
+    pub value: T,
     pub next: usize,
 }
 
-// A number that was read, or the place of a field that is not in its form.
-#[derive(Clone, Copy)]
-pub enum HeldAnswer {
-    Is(Held),
-    Wrong(usize),
-}
-
-impl HeldAnswer {
-    // Where the field is wrong: `let .. else` does not bind it.
-    pub fn place(self) -> usize
-        ensures { result ≡ held_place self }
-    {
-        match self {
-            HeldAnswer::Is(_) => 0,
-            HeldAnswer::Wrong(place) => place,
-        }
-    }
-}
-
-// A nomination or a margin that was read, and the place after its letter's field.
-#[derive(Clone, Copy)]
-pub struct Quantity {
-    pub kwh: i32,
-    pub next: usize,
-}
-
-// What a letter says of the amount before it.
-#[derive(Clone, Copy)]
-pub enum Letter {
-    Injection,
-    Withdrawal,
-    Wrong,
-}
-
-// Such a quantity, or the place of a field that is not in its form.
-#[derive(Clone, Copy)]
-pub enum QuantityAnswer {
-    Is(Quantity),
-    Wrong(usize),
-}
-
-impl QuantityAnswer {
-    pub fn place(self) -> usize
-        ensures { result ≡ quantity_place self }
-    {
-        match self {
-            QuantityAnswer::Is(_) => 0,
-            QuantityAnswer::Wrong(place) => place,
-        }
-    }
-}
-
-fn at_most(cap: u32, n: u32) -> u32
-    ensures { result ≡ least cap n }
+// The refusal of a field that is not in its form, at the place where it starts.
+pub fn malformed(place: usize) -> Refusal
+    ensures { result ≡ record { why = W.Line; place = place } }
 {
-    if n < cap {
-        return n;
+    Refusal {
+        why: Why::Line,
+        place,
     }
-    cap
 }
 
 // The digits from a place on, behind a number that is read already.
-fn more_digits(s: &[u8], at: usize, first: u32, cap: u32) -> Held
-    requires { (first ≤ cap) × (cap ≤ number_cap) }
+fn more_digits(s: &[u8], at: usize, first: u32, cap: u32) -> Held<u32>
+    requires { (at ≤ length s.now) × ((first ≤ cap) × (cap ≤ number_cap)) }
     ensures { Digits s.now at first cap result }
 {
     let mut value = first;
-    let mut i = at;
-    while i < s.len() {
-        let digit = digit_of(s[i]);
-        if 9 < digit {
+    for i in at..s.len() {
+        if !s[i].is_ascii_digit() {
             return Held { value, next: i };
         }
-        value = at_most(cap, value * 10 + digit);
-        i += 1;
+        value = cap.min(value * 10 + (u32::from(s[i]) - ZERO));
     }
-    Held { value, next: i }
+    Held {
+        value,
+        next: s.len(),
+    }
 }
 
 // A numeral from its first digit on: a 0 in front stands alone, so that what follows it must end the field.
-fn numeral_from(s: &[u8], at: usize, first: u32, cap: u32) -> Held
+fn numeral_from(s: &[u8], at: usize, first: u32, cap: u32) -> Held<u32>
     requires { Opens s.now at first × ((9 ≤ cap) × (cap ≤ number_cap)) }
     ensures { Ended s.now at cap result }
 {
@@ -123,127 +78,106 @@ fn numeral_from(s: &[u8], at: usize, first: u32, cap: u32) -> Held
 }
 
 // A numeral and the byte that ends it.
-pub fn numeral_at(s: &[u8], at: usize, cap: u32, stop: u8) -> HeldAnswer
+pub fn numeral_at(s: &[u8], at: usize, cap: u32, stop: u8) -> Result<Held<u32>, Refusal>
     requires { Stops stop × ((9 ≤ cap) × (cap ≤ number_cap)) }
-    ensures { held_reply result ≡ mapped (capped cap) (numeral_of s.now at stop) }
+    ensures { reply result ≡ mapped (capped cap) (numeral_of s.now at stop) }
 {
-    let first = digit_of(byte(s, at));
-    if 9 < first {
-        return HeldAnswer::Wrong(at);
+    let first = byte(s, at);
+    if !first.is_ascii_digit() {
+        return Err(malformed(at));
     }
-    let number = numeral_from(s, at, first, cap);
+    let number = numeral_from(s, at, u32::from(first) - ZERO, cap);
     let end = number.next;
     if byte(s, end) != stop {
-        return HeldAnswer::Wrong(at);
+        return Err(malformed(at));
     }
-    HeldAnswer::Is(Held {
+    Ok(Held {
         value: number.value,
         next: end + 1,
     })
 }
 
-// The number of three digits; where one of them is none, a number above 999.
-fn three_digits(first: u8, second: u8, third: u8) -> u32
-    ensures { result ≡ digits_or (first ∷ second ∷ third ∷ []) }
+// The number of three digits, if they are digits.
+#[tactic(auto, unfolding(numbers::specs::Decimal::all_digits, numbers::specs::Decimal::number_from))]
+fn three_digits(first: u8, second: u8, third: u8) -> Option<u32>
+    ensures { result ≡ digits_in (first ∷ second ∷ third ∷ []) }
 {
-    let hundreds = digit_of(first);
-    if 9 < hundreds {
-        return NONE;
-    }
-    let tens = digit_of(second);
-    if 9 < tens {
-        return NONE;
-    }
-    let ones = digit_of(third);
-    if 9 < ones {
-        return NONE;
-    }
-    (hundreds * 10 + tens) * 10 + ones
+    let hundreds = digit_of(first)?;
+    let tens = digit_of(second)?;
+    let ones = digit_of(third)?;
+    Some((hundreds * 10 + tens) * 10 + ones)
 }
 
-// The number of three digits that a semicolon ends; where they are not there, a number above 999.
-fn decimals_at(s: &[u8], at: usize) -> u32
+// The number of three digits that a semicolon ends, if they are there.
+fn decimals_at(s: &[u8], at: usize) -> Option<u32>
     requires { at ≤ length s.now }
-    ensures { result ≡ decimals_or s.now at }
+    ensures { result ≡ decimals_in s.now at }
 {
     if byte(s, at + 3) != SEMICOLON {
-        return NONE;
+        return None;
     }
     three_digits(byte(s, at), byte(s, at + 1), byte(s, at + 2))
 }
 
 // An amount: MWh with a comma and three decimals, as kWh.
-fn amount_at(s: &[u8], at: usize) -> HeldAnswer
-    ensures { held_reply result ≡ mapped capped_amount (amount_of s.now at) }
+fn amount_at(s: &[u8], at: usize) -> Result<Held<u32>, Refusal>
+    ensures { reply result ≡ mapped capped_amount (amount_of s.now at) }
 {
-    let answer = numeral_at(s, at, MWH_CAP, COMMA);
-    let HeldAnswer::Is(mwh) = answer else {
-        return answer;
-    };
+    let mwh = numeral_at(s, at, MWH_CAP, COMMA)?;
     let decimals = mwh.next;
-    let part = decimals_at(s, decimals);
-    if 999 < part {
-        return HeldAnswer::Wrong(at);
-    }
-    HeldAnswer::Is(Held {
+    let Some(part) = decimals_at(s, decimals) else {
+        return Err(malformed(at));
+    };
+    Ok(Held {
         value: mwh.value * 1000 + part,
         next: decimals + 4,
     })
 }
 
-// The direction that a letter gives to an amount of this size.
-fn letter_by(letter: u8, size: u32) -> Letter
+// The direction that a letter gives to an amount of this size: of zero only an injection.
+fn letter_by(letter: u8, size: u32) -> Option<Direction>
     ensures { result ≡ letter_by letter size }
 {
-    if letter == INJECTION {
-        return Letter::Injection;
+    match letter {
+        INJECTION => Some(Direction::Injections),
+        WITHDRAWAL if size != 0 => Some(Direction::Withdrawals),
+        _ => None,
     }
-    if size == 0 {
-        return Letter::Wrong;
-    }
-    if letter == WITHDRAWAL {
-        return Letter::Withdrawal;
-    }
-    Letter::Wrong
 }
 
 // The letter at a place and the byte that ends its field: the direction of an amount of this size.
-fn letter_at(s: &[u8], at: usize, size: u32, stop: u8) -> Letter
+fn letter_at(s: &[u8], at: usize, size: u32, stop: u8) -> Option<Direction>
     requires { at ≤ length s.now }
     ensures { result ≡ letter_at s.now at size stop }
 {
     if byte(s, at + 1) != stop {
-        return Letter::Wrong;
+        return None;
     }
     letter_by(byte(s, at), size)
 }
 
-// An amount with the sign that its letter tells.
-fn signed_by(letter: Letter, size: Held) -> QuantityAnswer
-    requires { (size.value ≤ 1001999) × (size.next + 2 < 18446744073709551616) }
-    ensures { quantity_reply result ≡ quantity_by letter size }
+// An amount with the sign of its direction.
+fn signed(size: u32, direction: Direction) -> i32
+    requires { size ≤ 1001999 }
+    ensures { result ≡ signed_in direction size }
 {
-    let kwh = size.value as i32;
-    match letter {
-        Letter::Injection => QuantityAnswer::Is(Quantity {
-            kwh,
-            next: size.next + 2,
-        }),
-        Letter::Withdrawal => QuantityAnswer::Is(Quantity {
-            kwh: -kwh,
-            next: size.next + 2,
-        }),
-        Letter::Wrong => QuantityAnswer::Wrong(size.next),
+    let kwh = size as i32;
+    match direction {
+        Direction::Injections => kwh,
+        Direction::Withdrawals => -kwh,
     }
 }
 
 // An amount and its letter.
-pub fn quantity_at(s: &[u8], at: usize, stop: u8) -> QuantityAnswer
-    ensures { quantity_reply result ≡ mapped capped_kwh (quantity_of s.now at stop) }
+pub fn quantity_at(s: &[u8], at: usize, stop: u8) -> Result<Held<i32>, Refusal>
+    ensures { reply result ≡ mapped capped_kwh (quantity_of s.now at stop) }
 {
-    let answer = amount_at(s, at);
-    let HeldAnswer::Is(size) = answer else {
-        return QuantityAnswer::Wrong(answer.place());
+    let size = amount_at(s, at)?;
+    let Some(direction) = letter_at(s, size.next, size.value, stop) else {
+        return Err(malformed(size.next));
     };
-    signed_by(letter_at(s, size.next, size.value, stop), size)
+    Ok(Held {
+        value: signed(size.value, direction),
+        next: size.next + 2,
+    })
 }

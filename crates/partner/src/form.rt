@@ -1,74 +1,45 @@
 // The eight fields of a line, judged for their form: the first that is wrong ends the reading.
 ghost use Rattle.std.specs.Prelude.{◌≡◌};
+ghost use Rattle.terms.specs.Refusals.{reply};
 ghost use Rattle.partner.specs.Form.{unit_number_of, form_of};
-ghost use Rattle.partner.specs.Inner.{capped_form, mapped, quantities_behind, held_reply, form_reply, form_place};
+ghost use Rattle.partner.specs.Inner.{capped_form, mapped, quantities_behind};
 
-use crate::fields::{
-    Held, HeldAnswer, LINE_FEED, Quantity, QuantityAnswer, SEMICOLON, numeral_at, quantity_at,
-};
+use crate::fields::{Held, LINE_FEED, SEMICOLON, malformed, numeral_at, quantity_at};
 use records::day::DayRecord;
+use terms::refusal::Refusal;
 
 // The largest number of a unit.
 const LARGEST: u32 = 65535;
 
 // The values of the fields, with the place after each; what is too large is told by its cap.
-#[derive(Clone, Copy)]
+#[derive(Clone, Copy, PartialEq, Eq, Debug)]
 pub struct Form {
-    pub number: Held,
-    pub quarter: Held,
-    pub n: Quantity,
-    pub step_down: Quantity,
-    pub step_up: Quantity,
+    pub number: Held<u32>,
+    pub quarter: Held<u32>,
+    pub n: Held<i32>,
+    pub step_down: Held<i32>,
+    pub step_up: Held<i32>,
 }
 
-// The values, or the place of the first field that is not in its form.
-#[derive(Clone, Copy)]
-pub enum FormAnswer {
-    Is(Form),
-    Wrong(usize),
-}
-
-impl FormAnswer {
-    pub fn place(self) -> usize
-        ensures { result ≡ form_place self }
-    {
-        match self {
-            FormAnswer::Is(_) => 0,
-            FormAnswer::Wrong(place) => place,
-        }
-    }
-}
-
-fn unit_number(s: &[u8]) -> HeldAnswer
-    ensures { held_reply result ≡ unit_number_of s.now }
+fn unit_number(s: &[u8]) -> Result<Held<u32>, Refusal>
+    ensures { reply result ≡ unit_number_of s.now }
 {
-    let answer = numeral_at(s, 0, LARGEST + 1, SEMICOLON);
-    let HeldAnswer::Is(number) = answer else {
-        return answer;
-    };
+    let number = numeral_at(s, 0, LARGEST + 1, SEMICOLON)?;
     if LARGEST < number.value {
-        return HeldAnswer::Wrong(0);
+        return Err(malformed(0));
     }
-    HeldAnswer::Is(number)
+    Ok(number)
 }
 
 // A line's three quantities, behind its two numbers.
-fn quantities_behind(s: &[u8], number: Held, quarter: Held) -> FormAnswer
-    ensures { form_reply result ≡ quantities_behind s.now number quarter }
+#[tactic(auto, unfolding(terms::specs::Reply::next, crate::specs::Inner::quantities_behind))]
+fn quantities_behind(s: &[u8], number: Held<u32>, quarter: Held<u32>) -> Result<Form, Refusal>
+    ensures { reply result ≡ quantities_behind s.now number quarter }
 {
-    let of_n = quantity_at(s, quarter.next, SEMICOLON);
-    let QuantityAnswer::Is(n) = of_n else {
-        return FormAnswer::Wrong(of_n.place());
-    };
-    let of_down = quantity_at(s, n.next, SEMICOLON);
-    let QuantityAnswer::Is(step_down) = of_down else {
-        return FormAnswer::Wrong(of_down.place());
-    };
-    let of_up = quantity_at(s, step_down.next, LINE_FEED);
-    let QuantityAnswer::Is(step_up) = of_up else {
-        return FormAnswer::Wrong(of_up.place());
-    };
-    FormAnswer::Is(Form {
+    let n = quantity_at(s, quarter.next, SEMICOLON)?;
+    let step_down = quantity_at(s, n.next, SEMICOLON)?;
+    let step_up = quantity_at(s, step_down.next, LINE_FEED)?;
+    Ok(Form {
         number,
         quarter,
         n,
@@ -77,16 +48,11 @@ fn quantities_behind(s: &[u8], number: Held, quarter: Held) -> FormAnswer
     })
 }
 
-pub fn form_of(s: &[u8]) -> FormAnswer
-    ensures { form_reply result ≡ mapped capped_form (form_of s.now) }
+#[tactic(auto, unfolding(terms::specs::Reply::next), using(crate::proofs::Forms::forming))]
+pub fn form_of(s: &[u8]) -> Result<Form, Refusal>
+    ensures { reply result ≡ mapped capped_form (form_of s.now) }
 {
-    let of_number = unit_number(s);
-    let HeldAnswer::Is(number) = of_number else {
-        return FormAnswer::Wrong(of_number.place());
-    };
-    let of_quarter = numeral_at(s, number.next, DayRecord::AUTUMN as u32, SEMICOLON);
-    let HeldAnswer::Is(quarter) = of_quarter else {
-        return FormAnswer::Wrong(of_quarter.place());
-    };
+    let number = unit_number(s)?;
+    let quarter = numeral_at(s, number.next, u32::from(DayRecord::AUTUMN), SEMICOLON)?;
     quantities_behind(s, number, quarter)
 }

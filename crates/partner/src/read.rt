@@ -1,15 +1,16 @@
 // The line at the front of some bytes.
 ghost use Rattle.std.specs.Prelude.{◌≡◌, ◌≤◌};
-ghost use Rattle.terms.specs.declared.refusal.Why.TheVariants as W;
-ghost use Rattle.partner.specs.Line.{line_in, starts_in, read_of, line_reply};
+ghost use Rattle.terms.specs.Refusals.{reply};
+ghost use Rattle.partner.specs.Line.{line_in, starts_in, read_of};
 ghost use Rattle.partner.specs.Inner.{line_by};
 
-use crate::form::{Form, FormAnswer, form_of};
+use crate::form::{Form, form_of};
 use crate::limits::{Places, limits};
-use crate::line::{Line, LineAnswer, LineRead};
+use crate::line::{Line, LineRead};
 use terms::quantity::{Margins, Nomination};
-use terms::refusal::{Answer, Refusal, Why};
+use terms::refusal::Refusal;
 
+// No From: it cannot ask that the numbers fit, and TryFrom would test what the form has told.
 fn line_in(f: Form) -> Line
     requires { (f.number.value ≤ 65535) × (f.quarter.value ≤ 255) }
     ensures { result ≡ line_in f }
@@ -17,58 +18,45 @@ fn line_in(f: Form) -> Line
     Line {
         number: f.number.value as u16,
         quarter: f.quarter.value as u8,
-        n: Nomination(f.n.kwh),
+        n: Nomination(f.n.value),
         margins: Margins {
-            step_down: f.step_down.kwh,
-            step_up: f.step_up.kwh,
+            step_down: f.step_down.value,
+            step_up: f.step_up.value,
         },
     }
 }
 
-fn starts_in(f: Form) -> Places
-    ensures { result ≡ starts_in f }
-{
-    Places {
-        quarter: f.number.next,
-        n: f.quarter.next,
-        step_down: f.n.next,
-        step_up: f.step_down.next,
+impl From<Form> for Places {
+    ghost from_gives = { λ f at. at ≡ starts_in f };
+
+    fn from(f: Form) -> Places {
+        Places {
+            quarter: f.number.next,
+            n: f.quarter.next,
+            step_down: f.n.next,
+            step_up: f.step_down.next,
+        }
     }
 }
 
 // A line whose fields are in their form, by its limits.
-fn line_by(f: Form) -> LineAnswer
+#[tactic(auto, unfolding(crate::specs::Inner::line_by), using(crate::proofs::Bounds::deciding))]
+fn line_by(f: Form) -> Result<LineRead, Refusal>
     requires { (f.number.value ≤ 65535) × (f.quarter.value ≤ 255) }
-    ensures { line_reply result ≡ line_by f }
+    ensures { reply result ≡ line_by f }
 {
     let line = line_in(f);
-    let held = limits(line, starts_in(f));
-    let Answer::Is(_) = held else {
-        return LineAnswer::Refused(held.refusal());
-    };
-    LineAnswer::Is(LineRead {
+    limits(line, Places::from(f))?;
+    Ok(LineRead {
         line,
         used: f.step_up.next,
     })
 }
 
-// A field that is not in its form.
-fn wrong(place: usize) -> LineAnswer
-    ensures { result ≡ LineAnswer.Refused (record { why = W.Line; place = place }) }
-{
-    LineAnswer::Refused(Refusal {
-        why: Why::Line,
-        place,
-    })
-}
-
 // Bytes after its line feed are not read.
-pub fn read_line(s: &[u8]) -> LineAnswer
-    ensures { line_reply result ≡ read_of s.now }
+pub fn read_line(s: &[u8]) -> Result<LineRead, Refusal>
+    ensures { reply result ≡ read_of s.now }
 {
-    let answer = form_of(s);
-    let FormAnswer::Is(form) = answer else {
-        return wrong(answer.place());
-    };
+    let form = form_of(s)?;
     line_by(form)
 }

@@ -1,4 +1,5 @@
 -- What the product promises, sentence by sentence: each statement is proved by the theorem that it cites.
+use Rattle.std.specs.Prelude.{Result}
 use Prim.Native.Nat.{ℕ, ◌≤◌, ◌<◌}
 use mathlib.Core.Path.{◌≡◌}
 use mathlib.Core.List.{List}
@@ -8,12 +9,11 @@ use lib.ListN.{length, take}
 use Rattle.numbers.specs.Bytes.{Bytes, byte_at}
 use Rattle.numbers.specs.Column.{at}
 use Rattle.terms.specs.Reply.{is}
-use Rattle.terms.specs.Refusals.{answer}
+use Rattle.terms.specs.Refusals.{reply}
 use Rattle.terms.specs.declared.refusal.Refusal.{Refusal}
-use Rattle.terms.specs.declared.refusal.Answer.{Answer}
 use Rattle.group.specs.Group.{Group, n3}
-use Rattle.group.specs.Columns.{judgement, Judges, SameOutcome}
-use Rattle.group.specs.declared.judge.Judgement.{Judgement}
+use Rattle.group.specs.Columns.{Judges, SameOutcome}
+use Rattle.group.specs.declared.judge.Sums.{Sums}
 use Rattle.group.specs.Accepted.{Accepted}
 use Rattle.group.specs.Demand3.{Demand3}
 use Rattle.group.specs.Ties.{LargerFirst}
@@ -36,8 +36,8 @@ use Rattle.walk.specs.Table.{role_of}
 use Rattle.decode.specs.Block.{block_count}
 use Rattle.blocks.specs.Blocks.{group_told, block_group, unit_result}
 use Rattle.day.specs.declared.value.Day.{Day}
-use Rattle.day.specs.declared.offer.Step.{Step}
-use Rattle.day.specs.declared.offer.Offered.TheVariants.{Taken, Refused}
+use Rattle.day.specs.Outcome.{Step}
+use Rattle.day.specs.Outcome.{Taken, Refused}
 use Rattle.day.specs.Days.{fresh, opened}
 use Rattle.day.specs.Offers.{Offers}
 use Rattle.day.specs.Answered.{One}
@@ -50,8 +50,7 @@ use Rattle.listing.specs.Whole.{day_list, Steps}
 use Rattle.listing.proofs.Whole.{list-whole}
 use Rattle.partner.specs.declared.line.Line.{Line}
 use Rattle.partner.specs.declared.line.LineRead.{LineRead}
-use Rattle.partner.specs.declared.line.LineAnswer.{LineAnswer}
-use Rattle.partner.specs.Line.{read_of, line_reply, LineWritten}
+use Rattle.partner.specs.Line.{read_of, LineWritten}
 use Rattle.partner.proofs.Unique.{read-line-unique, write-line-unique}
 use Rattle.partner.proofs.Lines.{line-back, line-again}
 
@@ -61,8 +60,8 @@ pub every-byte-string : (day : Day) (s room : List ℕ) → One day s room
 every-byte-string = offer-answered
 
 -- Two answers to one set of columns are one, and so are the columns written.
-pub every-set-of-columns : (g : Group) (first second third : List ℤ) (r q : Judgement) {x1 y1 x2 y2 x3 y3 : List ℤ}
-    → Judges g first second third (judgement r) x1 x2 x3 → Judges g first second third (judgement q) y1 y2 y3 → SameOutcome r q x1 y1 x2 y2 x3 y3
+pub every-set-of-columns : (g : Group) (first second third : List ℤ) (r q : Result Sums Refusal) {x1 y1 x2 y2 x3 y3 : List ℤ}
+    → Judges g first second third (reply r) x1 x2 x3 → Judges g first second third (reply q) y1 y2 y3 → SameOutcome r q x1 y1 x2 y2 x3 y3
 every-set-of-columns = judge-unique
 
 -- The C call gives the length of a result or minus the number of a refusal, each one that its header says.
@@ -74,10 +73,10 @@ pub every-input : (input : List ℕ) → Steps (record { day = fresh; place = 0 
 every-input = list-whole
 
 -- Two answers to the bytes of a partner's line are one, and so are two answers and two rooms of its writer.
-pub every-line : (s : List ℕ) (a b : LineAnswer) → line_reply a ≡ read_of s → line_reply b ≡ read_of s → a ≡ b
+pub every-line : (s : List ℕ) (a b : Result LineRead Refusal) → reply a ≡ read_of s → reply b ≡ read_of s → a ≡ b
 every-line = read-line-unique
 
-pub every-written-line : (l : Line) (room : List ℕ) {r q : Answer} {exit other : List ℕ} → LineWritten l room r exit → LineWritten l room q other
+pub every-written-line : (l : Line) (room : List ℕ) {r q : Result ℕ Refusal} {exit other : List ℕ} → LineWritten l room r exit → LineWritten l room q other
     → (r ≡ q) × (exit ≡ other)
 every-written-line l room = write-line-unique l room
 
@@ -88,7 +87,7 @@ refused-writes-nothing = refusal-keeps
 
 -- ---- 2. Accepted groups come out exactly as the rule says, and both round trips hold.
 -- What our writers make reads back as the values given.
-module _ {room exit : List ℕ} {r : Answer} {n : ℕ} (done : answer r ≡ is n) where
+module _ {room exit : List ℕ} {r : Result ℕ Refusal} {n : ℕ} (done : reply r ≡ is n) where
   pub day-reads-back : (d : DayRecord) → DayWritten d room r exit → (day_at exit 0 ≡ d) × (day_of exit ≡ is d)
   day-reads-back = day-back done
 
@@ -103,8 +102,8 @@ module _ {room exit : List ℕ} {r : Answer} {n : ℕ} (done : answer r ≡ is n
   line-reads-back l small = line-back l small done
 
 -- Of a line too: what is accepted, written again, gives the same bytes.
-pub line-written-again : (s : List ℕ) (l : LineRead) → read_of s ≡ is l → (lent : List ℕ) {left : List ℕ} {r : Answer} → l.used ≤ length lent
-    → LineWritten l.line lent r left → (answer r ≡ is l.used) × (take l.used left ≡ take l.used s)
+pub line-written-again : (s : List ℕ) (l : LineRead) → read_of s ≡ is l → (lent : List ℕ) {left : List ℕ} {r : Result ℕ Refusal} → l.used ≤ length lent
+    → LineWritten l.line lent r left → (reply r ≡ is l.used) × (take l.used left ≡ take l.used s)
 line-written-again s l e lent fits = line-again s l e lent fits
 
 module _ (day : Day) (s room : List ℕ) {step : Step} {exit : List ℕ} (o : Offers day s room (Taken step) exit) where
@@ -116,18 +115,18 @@ module _ (day : Day) (s room : List ℕ) {step : Step} {exit : List ℕ} (o : Of
   units-by-the-rule = unit-told day s room o
 
   -- What is accepted, written again, gives the same bytes.
-  module _ (small : Bytes s) (lent : List ℕ) {left : List ℕ} {r : Answer} (fits : step.used ≤ length lent) where
+  module _ (small : Bytes s) (lent : List ℕ) {left : List ℕ} {r : Result ℕ Refusal} (fits : step.used ≤ length lent) where
     pub day-written-again : role_of (byte_at s 0) ≡ Opens → DayWritten (day_at s 0) lent r left
-        → (answer r ≡ is step.used) × (take step.used left ≡ take step.used s)
+        → (reply r ≡ is step.used) × (take step.used left ≡ take step.used s)
     day-written-again = day-same day s room o small lent fits
 
     pub block-written-again : role_of (byte_at s 0) ≡ Block
         → BlockWritten (group_at s 0) (columns_in s (block_count s)) lent r left
-        → (answer r ≡ is step.used) × (take step.used left ≡ take step.used s)
+        → (reply r ≡ is step.used) × (take step.used left ≡ take step.used s)
     block-written-again = block_same day s room o small lent fits
 
     pub end-written-again : role_of (byte_at s 0) ≡ Closes → EndWritten (end_at s 0) lent r left
-        → (answer r ≡ is step.used) × (take step.used left ≡ take step.used s)
+        → (reply r ≡ is step.used) × (take step.used left ≡ take step.used s)
     end-written-again = end_same day s room o small lent fits
 
   -- ---- 3. In step 2 the cut is fair: each sentence is a field of `Demand3`.

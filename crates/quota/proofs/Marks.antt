@@ -17,8 +17,8 @@ use Rattle.numbers.proofs.Sums.{count-cong, count-all, sum_to-one, sum_to-mono, 
 use Rattle.terms.specs.Quantities.{size_in}
 use Rattle.terms.specs.declared.quantity.Direction.{Direction}
 use Rattle.quota.specs.Quota.{whole, rest, ahead, before, rank, still, cut_at, cuts_of}
-use Rattle.quota.specs.Inner.{Asked, Own, Rated, Sharing, top, tied, mark_by, mark, marks_of, Marked, earlier_by, Parts, dealt_at}
-use Rattle.quota.specs.declared.Ratio.{Ratio}
+use Rattle.quota.specs.Inner.{Asked, Own, Sharing, top, tied, mark_by, mark, marks_of, Marked, earlier_by, Parts, dealt_at}
+use Rattle.quota.specs.declared.ratio.Ratio.{Ratio}
 use Rattle.quota.proofs.Fairness.{length-cuts, cuts-all}
 use Rattle.quota.proofs.Order.{ahead-over, ahead-under, ahead-same}
 use Rattle.quota.proofs.Ratios.{share-le}
@@ -28,8 +28,8 @@ use Rattle.quota.proofs.Shares.{rest_lt, rest-size, still-rests, dealt-rest}
 pub total-small : {s : List ℕ} {t c : ℕ} → Asked s t c → t ≤ 64000000
 total-small {s} a = omega (arith, a.total, a.sized.few, sum_bound s 1000000 a.sized.small)
 
-pub sharing : {s : List ℕ} {t c : ℕ} {r : Ratio} → Asked s t c → r.t ≡ t → Rated r → Sharing s r
-sharing a e h = record { sized = a.sized; total = e ∙ a.total; rated = h }
+pub sharing : {s : List ℕ} {t c : ℕ} (r : Ratio) → Asked s t c → r.t ≡ t → Sharing s r
+sharing r a e = record { sized = a.sized; total = e ∙ a.total }
 
 -- where all is cut the sizes are the cuts
 pub all-cut : {s : List ℕ} {t c : ℕ} → Asked s t c → c ≡ t → s ≡ cuts_of s c
@@ -63,10 +63,10 @@ module _ {s : List ℕ} {r : Ratio} (h : Sharing s r) where
   c = r.c
 
   pub cut-within : c ≤ sum s
-  cut-within = omega (arith, h.total, h.rated.less)
+  cut-within = omega (arith, h.total, r.rate.less)
 
   pub total-pos : 0 < sum s
-  total-pos = omega (arith, h.total, h.rated.less)
+  total-pos = omega (arith, h.total, r.rate.less)
 
   marks-length : length (marks_of s c) ≡ length s
   unfolding marks_of
@@ -78,7 +78,7 @@ module _ {s : List ℕ} {r : Ratio} (h : Sharing s r) where
 
   whole-small : (i : ℕ) → whole s c i ≤ 1000000
   unfolding whole
-  whole-small i = omega (arith, ap (λ (t : ℕ). c * get_or s i 0 / t) h.total, share-le (get_or s i 0) h.rated, h.sized.small i)
+  whole-small i = omega (arith, ap (λ (t : ℕ). c * get_or s i 0 / t) h.total, share-le r (get_or s i 0), h.sized.small i)
 
   -- fewer kWh are left than there are units
   still-fewer : still s c < length s
@@ -110,7 +110,7 @@ module _ {s : List ℕ} {r : Ratio} (h : Sharing s r) where
     where
       go : Dec (k < length s) → Dec (0 < rest s c k) → get_or (marks_of s c) k 0 < tied
       go (no l) _ = omega (arith, column-past (mark s c) (length s) k 0 (omega arith))
-      go (yes l) (yes p) = omega (arith, mark-at k l, mark-rest (whole s c k) (rest s c k) p, rest_lt s c total-pos k, h.total, h.rated.few)
+      go (yes l) (yes p) = omega (arith, mark-at k l, mark-rest (whole s c k) (rest s c k) p, rest_lt s c total-pos k, h.total, r.rate.few)
       go (yes l) (no p) = omega (arith, mark-at k l, mark-whole (whole s c k) (rest s c k) (omega arith), whole-small k)
 
   pub marked : {m : List ℕ} {left : ℕ} → m ≡ marks_of s c → left ≡ still s c → 0 < left → Marked m left

@@ -43,12 +43,6 @@ module _ {l : List ℕ} {left low high : ℕ} (x : ℕ) (h : Spans l left low hi
   same : (x ≤ low) ⊎ (high ≤ x) → Narrowed l left low high x low high
   same d = record { spans = h; lower = le_refl low; higher = le_refl high; lows = inl refl; decided = d }
 
-  pub not-above : x ≤ low → Narrowed l left low high x low high
-  not-above m = same (inl m)
-
-  pub not-below : high ≤ x → Narrowed l left low high x low high
-  not-below m = same (inr m)
-
   module _ (a : low < x) (b : x < high) where
     pub fewer : above l x < left → Narrowed l left low high x low x
     fewer e =

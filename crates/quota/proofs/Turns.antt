@@ -9,7 +9,7 @@ use Rattle.numbers.proofs.Filling.{Filled, filled-start, filled_next, filled-tur
 use Rattle.numbers.proofs.Sums.{sum_to-one, sum_to-mono}
 use Rattle.quota.specs.Quota.{whole, rest, still}
 use Rattle.quota.specs.Inner.{Sharing, mark_by, mark, marks_of}
-use Rattle.quota.specs.declared.Ratio.{Ratio}
+use Rattle.quota.specs.declared.ratio.Ratio.{Ratio}
 use Rattle.quota.proofs.Shares.{wholes-le}
 use Rattle.quota.proofs.Marks.{cut-within, total-pos}
 

@@ -6,7 +6,7 @@ use Rattle.numbers.specs.Sum.{sum, bit, count}
 use Rattle.terms.specs.Quantities.{size_in}
 use Rattle.terms.specs.declared.quantity.Direction.{Direction}
 use Rattle.quota.specs.Quota.{whole, rest, ahead, rank}
-use Rattle.quota.specs.declared.Ratio.{Ratio}
+use Rattle.quota.specs.declared.ratio.Ratio.{Ratio}
 
 -- the sizes of a group: at most 64, none above 1,000,000
 pub record Sized (s : List ℕ) : Type 0 where
@@ -24,21 +24,10 @@ pub record Own (d : Direction) (n1 : List ℤ) (s : List ℕ) : Type 0 where
   pub places : length n1 ≡ length s
   pub own : (i : ℕ) → 0 < get_or s i 0 → size_in d (at n1 i) ≡ get_or s i 0
 
--- the parts of one kWh
-abbrev pub one : ℕ
-one = 4294967296
-
--- C is below T, and what each kWh bears is C / T in those parts, rounded down
-pub record Rated (r : Ratio) : Type 0 where
-  pub less : r.c < r.t
-  pub few : r.t ≤ 64000000
-  pub rounded : r.each ≡ r.c * one / r.t
-
 -- a ratio of sizes: less than their sum is cut of them
 pub record Sharing (s : List ℕ) (r : Ratio) : Type 0 where
   pub sized : Sized s
   pub total : r.t ≡ sum s
-  pub rated : Rated r
 
 -- no whole part is above top, and every mark of a remainder is; marks of units that are told apart by size and place lie above tied, and below won
 abbrev pub top : ℕ

@@ -1,4 +1,5 @@
 -- What holds of the units of a block that was accepted: each passed its checks, and they lie one after another.
+use Rattle.std.specs.Prelude.{Ok}
 use Prim.Native.Nat.{ℕ, zero, suc, ◌+◌, ◌≤◌, ◌<◌}
 use native.Mathlib.Nat.{not-suc-le-zero}
 use native.Mathlib.Omega.{arith}
@@ -15,7 +16,6 @@ use Rattle.numbers.specs.Choice.{pick, eq_z}
 use Rattle.numbers.proofs.Integers.{zarith, neg, by-test}
 use Rattle.terms.specs.Reply.{is}
 use Rattle.terms.specs.Quantities.{known_class, takes_sold, considered_of}
-use Rattle.terms.specs.declared.refusal.Checked.TheVariants.{Fine}
 use Rattle.terms.proofs.Replies.{next-is}
 use Rattle.terms.proofs.Passing.{passes, range-within}
 use Rattle.terms.proofs.Scan.{passed_is}
@@ -60,7 +60,7 @@ picked : (t : Bool) (a b : ℤ) → Within 1000000 a → Within 1000000 b → Wi
 picked true a b ha hb = ha
 picked false a b ha hb = hb
 
-pub sound : (u : UnitRecord) (floor : ℕ) → value_faults u floor ≡ Fine → Sound u
+pub sound : (u : UnitRecord) (floor : ℕ) → value_faults u floor ≡ Ok tt → Sound u
 unfolding value_faults mark_faults quantity_faults range_faults order_faults
 sound u floor e =
     let own = eqb u.kind interval_kind in
@@ -108,7 +108,7 @@ sound u floor e =
 
 -- a unit that was read is that of the layout, and passed
 pub unit-is : (s : List ℕ) (at floor : ℕ) (day : DayRecord) {u : UnitRecord} → unit_of s at floor day ≡ is u
-    → (unit_faults (unit_at s at) floor day ≡ Fine) × (u ≡ unit_at s at)
+    → (unit_faults (unit_at s at) floor day ≡ Ok tt) × (u ≡ unit_at s at)
 unfolding unit_of unit_fields_of
 unit-is s at floor day e =
     let p = passed_is _ _ _ (next-is _ _ e).1.1 in

@@ -1,4 +1,5 @@
 -- Late or early: what is not aged was made after the run or is stale, never both, and its number tells which.
+use Rattle.std.specs.Prelude.{Result, Ok, Err, Option}
 use Prim.Native.Nat.{ℕ, ◌-◌, ◌≤◌, ◌<◌}
 use mathlib.Core.Path.{◌≡◌, refl, sym, ◌∙◌}
 use mathlib.Core.Bool.{Bool, true, false, not, false≢true}
@@ -11,13 +12,11 @@ use Rattle.terms.specs.Refusals.{number_of, why_of, check}
 use Rattle.terms.specs.declared.refusal.Why.TheVariants as W
 use Rattle.terms.specs.declared.refusal.Fault.{Fault}
 use Rattle.terms.specs.declared.refusal.Fault.TheVariants as F
-use Rattle.terms.specs.declared.refusal.Checked.{Checked}
-use Rattle.terms.specs.declared.refusal.Checked.TheVariants.{Fine, Faulty}
 use Rattle.terms.proofs.Replies.{never, need-past}
 use Rattle.terms.proofs.Numbers.{is_of}
+use Rattle.records.specs.declared.key.Key.{Key}
 use Rattle.records.specs.declared.day.DayRecord.{DayRecord}
 use Rattle.records.specs.declared.unit.UnitRecord.{UnitRecord}
-use Rattle.records.specs.declared.key.Last.{Last}
 use Rattle.records.specs.Layouts.{group_at}
 use Rattle.records.specs.Reading.{aged, made_after, position_why, margin_fault, also, mark_faults, range_faults, order_faults, quantity_faults, value_faults, unit_faults, group_fields_of}
 use Rattle.records.proofs.Checks.{Only, only-fine, only-check, only-also}
@@ -46,12 +45,12 @@ module _ (run made limit : ℕ) where
       go false e = refl
 
   -- and so of margins: 18 and then 11
-  pub margin-in-turn : check (aged run made limit) (margin_fault run made) Fine ≡ check (not (made_after run made)) F.Ahead (check (aged run made limit) F.Age Fine)
+  pub margin-in-turn : check (aged run made limit) (margin_fault run made) (Ok tt) ≡ check (not (made_after run made)) F.Ahead (check (aged run made limit) F.Age (Ok tt))
   unfolding check
   margin-in-turn = go (made_after run made) refl
     where
       go : (t : Bool) → made_after run made ≡ t
-          → check (aged run made limit) (pick t F.Ahead F.Age) Fine ≡ check (not t) F.Ahead (check (aged run made limit) F.Age Fine)
+          → check (aged run made limit) (pick t F.Ahead F.Age) (Ok tt) ≡ check (not t) F.Ahead (check (aged run made limit) F.Age (Ok tt))
       go true e = rw (ahead-not-aged e)
       go false e = refl
 
@@ -77,7 +76,7 @@ is-ahead : (t : Bool) → number_of (pick t W.PositionAhead W.PositionAge) ≡ 1
 is-ahead true e = refl
 is-ahead false e = absurd (omega (arith, e))
 
-module _ (s : List ℕ) (day : DayRecord) (last : Last) {p : ℕ} where
+module _ (s : List ℕ) (day : DayRecord) (last : Option Key) {p : ℕ} where
   -- the tests before the age's have other numbers
   by-age : (n : ℕ) → (n ≡ 4 → ⊥) → (n ≡ 5 → ⊥) → (n ≡ 13 → ⊥) → group_fields_of s day last ≡ refused n p
       → (aged day.run (group_at s 0).made day.position_limit ≡ false) × (number_of (position_why day.run (group_at s 0).made) ≡ n)
@@ -103,7 +102,7 @@ abbrev NotOfAge : Fault → Type 0
 NotOfAge fault = of_age fault ≡ false
 
 -- no fault of these checks is one of age
-abbrev Early : Checked → Type 0
+abbrev Early : Result Unit Fault → Type 0
 Early = Only NotOfAge
 
 module _ (u : UnitRecord) (floor : ℕ) (day : DayRecord) where
@@ -120,21 +119,21 @@ module _ (u : UnitRecord) (floor : ℕ) (day : DayRecord) where
       (only-check NotOfAge _ F.Crossed _ refl (only-check NotOfAge _ F.EndsCrossed _ refl (only-check NotOfAge _ F.NotFull _ refl
       (only-check NotOfAge _ F.WorkingCrossed _ refl (only-fine NotOfAge)))))))
 
-  by-margins : (fault : Fault) → of_age fault ≡ true → unit_faults u floor day ≡ Faulty fault
+  by-margins : (fault : Fault) → of_age fault ≡ true → unit_faults u floor day ≡ Err fault
       → (aged day.run u.made day.margin_limit ≡ false) × (margin_fault day.run u.made ≡ fault)
   unfolding unit_faults also check
   by-margins fault late = go (value_faults u floor) values-early
     where
-      tested : (t : Bool) → check t (margin_fault day.run u.made) Fine ≡ Faulty fault → (t ≡ false) × (margin_fault day.run u.made ≡ fault)
+      tested : (t : Bool) → check t (margin_fault day.run u.made) (Ok tt) ≡ Err fault → (t ≡ false) × (margin_fault day.run u.made ≡ fault)
       tested true e = absurd (false≢true (sym (only-fine NotOfAge fault e) ∙ late))
       tested false e = (refl, cc)
 
-      go : (c : Checked) → Early c → also c (check (aged day.run u.made day.margin_limit) (margin_fault day.run u.made) Fine) ≡ Faulty fault
+      go : (c : Result Unit Fault) → Early c → also c (check (aged day.run u.made day.margin_limit) (margin_fault day.run u.made) (Ok tt)) ≡ Err fault
           → (aged day.run u.made day.margin_limit ≡ false) × (margin_fault day.run u.made ≡ fault)
-      go Fine h e = tested _ e
-      go (Faulty other) h e = absurd (false≢true (sym (h fault e) ∙ late))
+      go (Ok tt) h e = tested _ e
+      go (Err other) h e = absurd (false≢true (sym (h fault e) ∙ late))
 
-  pub margins-stale : unit_faults u floor day ≡ Faulty F.Age → (u.made ≤ day.run) × (day.margin_limit < day.run - u.made)
+  pub margins-stale : unit_faults u floor day ≡ Err F.Age → (u.made ≤ day.run) × (day.margin_limit < day.run - u.made)
   margins-stale e =
       let h = by-margins F.Age refl e in
       stale day.run u.made day.margin_limit (go (made_after day.run u.made) h.1) h.0
@@ -143,7 +142,7 @@ module _ (u : UnitRecord) (floor : ℕ) (day : DayRecord) where
       go true e = cc
       go false e = refl
 
-  pub margins-ahead : unit_faults u floor day ≡ Faulty F.Ahead → day.run < u.made
+  pub margins-ahead : unit_faults u floor day ≡ Err F.Ahead → day.run < u.made
   margins-ahead e = ltb-true day.run u.made (go (made_after day.run u.made) (by-margins F.Ahead refl e).1)
     where
       go : (t : Bool) → pick t F.Ahead F.Age ≡ F.Ahead → t ≡ true

@@ -1,4 +1,5 @@
 -- Where bytes agree up to a place, what lies before it is read alike: values, records, and the units of a block.
+use Rattle.std.specs.Prelude.{Option}
 use Prim.Native.Nat.{ℕ, zero, suc, ◌+◌, ◌-◌, ◌≤◌, ◌<◌}
 use mathlib.Core.Path.{◌≡◌, refl, sym, ap, ◌∙◌}
 use mathlib.Core.Bool.{Bool, true, false}
@@ -10,9 +11,9 @@ use lib.Seq.{get_or-take}
 use Rattle.numbers.specs.Bytes.{byte_at, be16, be32, signed32}
 use Rattle.terms.specs.Reply.{is, next}
 use Rattle.terms.proofs.Replies.{next-is}
+use Rattle.records.specs.declared.key.Key.{Key}
 use Rattle.records.specs.declared.day.DayRecord.{DayRecord}
 use Rattle.records.specs.declared.unit.UnitRecord.{UnitRecord}
-use Rattle.records.specs.declared.key.Last.{Last}
 use Rattle.records.specs.Layouts.{Width, u8, u16, u32, i32, Field, size, value_of, value_at}
 use Rattle.records.specs.Layouts.{day_day, day_quarters, day_run, day_position_limit, day_margin_limit, day_at}
 use Rattle.records.specs.Layouts.{group_length, group_brp, group_zone, group_quarter, group_count, group_made, group_at}
@@ -68,7 +69,7 @@ module _ (s t : List ℕ) (n : ℕ) (a : Agree s t n) where
   unfolding day_fields_of
   day-kept h = rw (day-same h)
 
-  pub group-kept : (d : DayRecord) (last : Last) → group_length ≤ n → group_fields_of t d last ≡ group_fields_of s d last
+  pub group-kept : (d : DayRecord) (last : Option Key) → group_length ≤ n → group_fields_of t d last ≡ group_fields_of s d last
   unfolding group_fields_of
   group-kept d last h = rw (group-same h)
 

@@ -1,4 +1,5 @@
 -- A unit that passes in all but N's range and its margins, and what is still to ask of it.
+use Rattle.std.specs.Prelude.{Result, Ok, Err}
 use Prim.Native.Nat.{ℕ, ◌≤◌}
 use mathlib.Core.Path.{◌≡◌, refl}
 use mathlib.Core.Bool.{Bool, true, false, ◌&&◌, ◌||◌}
@@ -17,8 +18,6 @@ use Rattle.terms.specs.Quantities.{known_class, takes_sold}
 use Rattle.terms.specs.Refusals.{check, passed}
 use Rattle.terms.specs.Checks.{in_range}
 use Rattle.terms.specs.declared.refusal.Fault.TheVariants as F
-use Rattle.terms.specs.declared.refusal.Checked.{Checked}
-use Rattle.terms.specs.declared.refusal.Checked.TheVariants.{Fine, Faulty}
 use Rattle.terms.proofs.Passing.{passes, range-within}
 use Rattle.records.specs.declared.day.DayRecord.{DayRecord}
 use Rattle.records.specs.declared.unit.UnitRecord.{UnitRecord}
@@ -29,11 +28,12 @@ use Rattle.records.specs.Inner.{is_whole, is_fine, is_pair, ends_pass, marks_pas
 use Rattle.records.proofs.Checks.{also-fine}
 use Rattle.records.proofs.Accepted.{unit-is}
 use Rattle.records.proofs.UnitHeads.{whole-read}
+use Rattle.terms.specs.declared.refusal.Fault.{Fault}
 
-fine-is : (r : Checked) → is_fine r ≡ true → r ≡ Fine
+fine-is : (r : Result Unit Fault) → is_fine r ≡ true → r ≡ Ok tt
 unfolding is_fine
-fine-is Fine e = refl
-fine-is (Faulty fault) e =
+fine-is (Ok tt) e = refl
+fine-is (Err fault) e =
     let z : ◌≡◌ {A = ℕ} 0 1 = cc in
     absurd (omega arith)
 
@@ -76,7 +76,7 @@ module _ (u : UnitRecord) (floor : ℕ) (day : DayRecord) where
   abbrev fresh : Bool
   fresh = aged day.run u.made day.margin_limit
 
-  parts : marks_pass u floor day ≡ true → (mark_faults u floor ≡ Fine) × ((in_range u.pc.0 ≡ true) × ((fresh ≡ true) × (ends_pass u ≡ true)))
+  parts : marks_pass u floor day ≡ true → (mark_faults u floor ≡ Ok tt) × ((in_range u.pc.0 ≡ true) × ((fresh ≡ true) × (ends_pass u ≡ true)))
   unfolding marks_pass
   parts e =
       let a = and_both (is_fine (mark_faults u floor)) (in_range u.pc.0 && (fresh && ends_pass u)) e in
@@ -95,7 +95,7 @@ module _ (u : UnitRecord) (floor : ℕ) (day : DayRecord) where
       record { stated = stated.0; pc = range-within _ p.1.0; flags = (class.0, (leb-true _ _ nominated.0, leb-true _ _ coincide.0)) }
 
   -- a unit without a fault has these marks
-  pub marks-needed : unit_faults u floor day ≡ Fine → marks_pass u floor day ≡ true
+  pub marks-needed : unit_faults u floor day ≡ Ok tt → marks_pass u floor day ≡ true
   unfolding unit_faults value_faults quantity_faults range_faults order_faults marks_pass is_fine
   marks-needed e =
       let a = also-fine _ _ e in
@@ -129,7 +129,7 @@ module _ (u : UnitRecord) (floor : ℕ) (day : DayRecord) where
 
   -- margins and ends are in their ranges and do not cross where the working margins do not: of an 04h both were asked, of a 03h the margins are the working ones and the ends are full
   quantities-enough : ends_fit u ≡ true → ends_pass u ≡ true → in_range u.n.0 ≡ true → in_range u.pc.0 ≡ true → in_range (margins_of u).step_down ≡ true
-      → in_range (margins_of u).step_up ≡ true → le_z (margins_of u).step_down (margins_of u).step_up ≡ true → quantity_faults u ≡ Fine
+      → in_range (margins_of u).step_up ≡ true → le_z (margins_of u).step_down (margins_of u).step_up ≡ true → quantity_faults u ≡ Ok tt
   unfolding quantity_faults range_faults order_faults also check
   quantities-enough fit ends n pc down up ordered = go (eqb u.kind interval_kind) fit ends down up ordered
     where
@@ -146,7 +146,7 @@ module _ (u : UnitRecord) (floor : ℕ) (day : DayRecord) where
           (check (le_z d h) F.Crossed
           (check (le_z u.lower u.upper) F.EndsCrossed
           (check (own || (eq_z u.lower full_lower && eq_z u.upper full_upper)) F.NotFull
-          (check (le_z (pick own (larger_of d u.lower) d) (pick own (smaller_of h u.upper) h)) F.WorkingCrossed Fine)))) ≡ Fine
+          (check (le_z (pick own (larger_of d u.lower) d) (pick own (smaller_of h u.upper) h)) F.WorkingCrossed (Ok tt))))) ≡ Ok tt
       go true fit ends down up ordered =
           let b = and_both (is_pair d h) (is_pair u.lower u.upper) ends in
           let m = paired d h b.0 in
@@ -161,7 +161,7 @@ module _ (u : UnitRecord) (floor : ℕ) (day : DayRecord) where
   -- and with its quantities in their ranges it has none
   pub marks-enough : is_unit u.kind ≡ true → ends_fit u ≡ true → marks_pass u floor day ≡ true
       → in_range (unit_n0 u) ≡ true → in_range (margins_of u).step_down ≡ true → in_range (margins_of u).step_up ≡ true
-      → le_z (margins_of u).step_down (margins_of u).step_up ≡ true → unit_faults u floor day ≡ Fine
+      → le_z (margins_of u).step_down (margins_of u).step_up ≡ true → unit_faults u floor day ≡ Ok tt
   unfolding unit_faults value_faults also check
   marks-enough known fit e n0 down up ordered =
       let p = parts e in
@@ -170,7 +170,7 @@ module _ (u : UnitRecord) (floor : ℕ) (day : DayRecord) where
 
 -- a unit that lies whole at a place and has no fault is read; what was read has these marks
 module _ (s : List ℕ) (at floor : ℕ) (day : DayRecord) where
-  pub unit-read : is_whole s at ≡ true → unit_faults (unit_at s at) floor day ≡ Fine → unit_of s at floor day ≡ is (unit_at s at)
+  pub unit-read : is_whole s at ≡ true → unit_faults (unit_at s at) floor day ≡ Ok tt → unit_of s at floor day ≡ is (unit_at s at)
   unfolding unit_of unit_fields_of next passed
   unit-read w e = rw (whole-read s at w, e)
 

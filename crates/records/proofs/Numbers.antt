@@ -1,12 +1,12 @@
 -- Which numbers the reading of each record can be refused with. A test more of a record's fields is a number here, and what rests on the numbers is worked out anew.
+use Rattle.std.specs.Prelude.{Option, None}
 use Prim.Native.Nat.{ℕ, zero, suc, ◌+◌}
 use mathlib.Core.Path.{◌≡◌, refl}
 use mathlib.Core.Bool.{true}
 use mathlib.Core.List.{List, [], ◌∷◌}
 use Rattle.terms.proofs.Numbers.{is_of, all_of, By, value, by-more, by-need, by-sure, by_next, fault_numbers, by-passed}
+use Rattle.records.specs.declared.key.Key.{Key}
 use Rattle.records.specs.declared.day.DayRecord.{DayRecord}
-use Rattle.records.specs.declared.key.Last.{Last}
-use Rattle.records.specs.declared.key.Last.TheVariants.{Nothing}
 use Rattle.records.specs.Layouts.{group_at}
 use Rattle.records.specs.Reading.{head_of, day_fields_of, group_fields_of, end_fields_of, unit_head_of, unit_end, unit_fields_of, unit_of, units_of}
 use Rattle.records.proofs.Ages.{of-position}
@@ -46,12 +46,12 @@ module _ (s : List ℕ) where
   unfolding end_fields_of
   by_end groups = by-need _ 14 _ refl (value _)
 
-  pub by-group : (d : DayRecord) (last : Last) → By group_numbers (group_fields_of s d last)
+  pub by-group : (d : DayRecord) (last : Option Key) → By group_numbers (group_fields_of s d last)
   unfolding group_fields_of
   by-group d last = by-need _ 4 _ refl (by-need _ 5 _ refl (by-need _ 13 _ refl (by-need _ _ _ (of-position (λ n. is_of group_numbers n ≡ true) refl refl d.run (group_at s 0).made) (value _))))
 
   -- the first block of a day comes after none
-  pub by_first : (d : DayRecord) → By first_numbers (group_fields_of s d Nothing)
+  pub by_first : (d : DayRecord) → By first_numbers (group_fields_of s d None)
   unfolding group_fields_of
   by_first d = by-need _ 4 _ refl (by-need _ 5 _ refl (by-sure _ 13 _ refl (by-need _ _ _ (of-position (λ n. is_of first_numbers n ≡ true) refl refl d.run (group_at s 0).made) (value _))))
 

@@ -1,4 +1,5 @@
 -- What holds of a record that was read: each test of its head and of its fields passed. A test more among a day's or a group's fields is a line here, and no other law takes those fields apart.
+use Rattle.std.specs.Prelude.{Option}
 use Prim.Native.Nat.{ℕ, ◌≤◌, ◌<◌}
 use mathlib.Core.Path.{◌≡◌, ap}
 use mathlib.Core.Bool.{true, ◌||◌}
@@ -10,9 +11,9 @@ use Rattle.numbers.proofs.Choices.{and_both, or-either}
 use Rattle.terms.specs.Reply.{is}
 use Rattle.terms.specs.Checks.{most_units, unit_count}
 use Rattle.terms.proofs.Replies.{need-is, next-is}
+use Rattle.records.specs.declared.key.Key.{Key}
 use Rattle.records.specs.declared.day.DayRecord.{DayRecord}
 use Rattle.records.specs.declared.group.GroupRecord.{GroupRecord}
-use Rattle.records.specs.declared.key.Last.{Last}
 use Rattle.records.specs.Layouts.{day_kind, day_length, day_at, day_length_of, group_at}
 use Rattle.records.specs.Reading.{permitted, follows, key_of, day_head_of, day_end, day_of, day_fields_of, group_head_of, group_of, group_fields_of}
 use Rattle.records.proofs.Heads.{head-end}
@@ -60,14 +61,14 @@ day-read s {d} e =
 
 -- ---- the group record
 -- its fields passed
-pub record GroupPassed (s : List ℕ) (day : DayRecord) (last : Last) (g : GroupRecord) : Type 0 where
+pub record GroupPassed (s : List ℕ) (day : DayRecord) (last : Option Key) (g : GroupRecord) : Type 0 where
   pub value : g ≡ group_at s 0
   pub early : (group_at s 0).quarter < day.quarters
   pub counted : unit_count (group_at s 0).count ≡ true
   pub most : (group_at s 0).count ≤ most_units
   pub after : follows last (key_of (group_at s 0)) ≡ true
 
-pub group-passed : (s : List ℕ) (day : DayRecord) (last : Last) {g : GroupRecord} → group_fields_of s day last ≡ is g → GroupPassed s day last g
+pub group-passed : (s : List ℕ) (day : DayRecord) (last : Option Key) {g : GroupRecord} → group_fields_of s day last ≡ is g → GroupPassed s day last g
 unfolding group_fields_of
 group-passed s day last e =
     let quarter = need-is _ _ _ _ e in
@@ -83,12 +84,12 @@ group-passed s day last e =
     }
 
 -- and its head
-pub record GroupRead (s : List ℕ) (day : DayRecord) (last : Last) (g : GroupRecord) : Type 0 where
+pub record GroupRead (s : List ℕ) (day : DayRecord) (last : Option Key) (g : GroupRecord) : Type 0 where
   pub end : ℕ
   pub head : group_head_of s ≡ is end
   pub fields : group_fields_of s day last ≡ is g
 
-pub group-read : (s : List ℕ) (day : DayRecord) (last : Last) {g : GroupRecord} → group_of s day last ≡ is g → GroupRead s day last g
+pub group-read : (s : List ℕ) (day : DayRecord) (last : Option Key) {g : GroupRecord} → group_of s day last ≡ is g → GroupRead s day last g
 unfolding group_of
 group-read s day last e =
     let h = next-is _ _ e in

@@ -1,4 +1,5 @@
 -- The units of a block one after another are a reading by steps, which the first refusal ends; what is at fault lies within the record.
+use Rattle.std.specs.Prelude.{Ok}
 use Prim.Native.Nat.{ℕ, ◌+◌, ◌<◌}
 use mathlib.Core.Path.{refl}
 use mathlib.Core.Bool.{Bool, true, false}
@@ -12,7 +13,6 @@ use Rattle.terms.specs.Reply.{Reply}
 use Rattle.terms.specs.Refusals.{check}
 use Rattle.terms.specs.declared.refusal.Fault.{Fault}
 use Rattle.terms.specs.declared.refusal.Fault.TheVariants as F
-use Rattle.terms.specs.declared.refusal.Checked.TheVariants.{Fine}
 use Rattle.terms.proofs.FirstRefused.{Steps}
 use Rattle.records.specs.declared.day.DayRecord.{DayRecord}
 use Rattle.records.specs.declared.unit.UnitRecord.{UnitRecord}
@@ -53,10 +53,10 @@ age-inside run made = go (made_after run made)
     go false = omega arith
 
 -- the margins of a 03h are the working ones, which cross no more than they do
-crossed-inside : (t : Bool) → Only Inside (check t F.Crossed (check true F.EndsCrossed (check true F.NotFull (check t F.WorkingCrossed Fine))))
+crossed-inside : (t : Bool) → Only Inside (check t F.Crossed (check true F.EndsCrossed (check true F.NotFull (check t F.WorkingCrossed (Ok tt)))))
 unfolding check
 crossed-inside true = only-fine Inside
-crossed-inside false = only-check Inside false F.Crossed Fine (omega arith) (only-fine Inside)
+crossed-inside false = only-check Inside false F.Crossed (Ok tt) (omega arith) (only-fine Inside)
 
 -- a 03h has no fault of ends
 plain-inside : (s : List ℕ) (at floor : ℕ) (day : DayRecord) → Only Inside (unit_faults (body_at s at) floor day)

@@ -1,4 +1,5 @@
 -- The working margins of a unit that passed, be it a 03h or an 04h: the larger of M- and the lower end and the smaller of M+ and the upper end, which lie inside both.
+use Rattle.std.specs.Prelude.{Ok}
 use Prim.Native.Nat.{ℕ}
 use mathlib.Core.Path.{◌≡◌, refl}
 use mathlib.Core.Bool.{Bool, true, false, ◌&&◌, ◌||◌}
@@ -9,7 +10,6 @@ use Rattle.numbers.specs.Choice.{pick, eq_z}
 use Rattle.numbers.specs.Range.{Within}
 use Rattle.numbers.proofs.Choices.{and_both}
 use Rattle.numbers.proofs.Integers.{zarith}
-use Rattle.terms.specs.declared.refusal.Checked.TheVariants.{Fine}
 use Rattle.records.specs.declared.unit.UnitRecord.{UnitRecord}
 use Rattle.records.specs.Layouts.{interval_kind, full_lower, full_upper, larger_of, smaller_of, margins_of}
 use Rattle.records.specs.Decoding.{Inside}
@@ -57,6 +57,6 @@ module _ (u : UnitRecord) (s : Sound u) where
       below x y z false e h = (omega zarith, h)
 
 -- of every unit that passes
-pub margins-working : (u : UnitRecord) (floor : ℕ) → value_faults u floor ≡ Fine
+pub margins-working : (u : UnitRecord) (floor : ℕ) → value_faults u floor ≡ Ok tt
     → ((margins_of u).step_down ≡ larger_of u.step_down u.lower) × ((margins_of u).step_up ≡ smaller_of u.step_up u.upper)
 margins-working u floor e = narrower u (sound u floor e)

@@ -1,15 +1,16 @@
 -- What inner functions ask of each other: no promise rests on it.
-use Rattle.std.specs.Prelude.{ℕ, ◌+◌, Bool, true, false, ◌&&◌, ◌||◌, List, eqb, leb, ℤ, length}
+use Rattle.std.specs.Prelude.{ℕ, ◌+◌, Bool, true, false, ◌&&◌, ◌||◌, List, eqb, leb, ℤ, length, Result, Ok, Err}
 use Rattle.std.specs.Int.Signed.{le_z}
 use Rattle.numbers.specs.Bytes.{byte_at}
 use Rattle.numbers.specs.Choice.{pick}
 use Rattle.terms.specs.Checks.{in_range}
-use Rattle.terms.specs.declared.refusal.Checked.{Checked}
-use Rattle.terms.specs.declared.refusal.Checked.TheVariants.{Fine, Faulty}
 use Rattle.records.specs.declared.day.DayRecord.{DayRecord}
 use Rattle.records.specs.declared.unit.UnitRecord.{UnitRecord}
-use Rattle.records.specs.Layouts.{unit_kind, interval_kind, unit_length, interval_length, full_lower, full_upper}
-use Rattle.records.specs.Reading.{aged, mark_faults}
+use Rattle.records.specs.Layouts.{unit_kind, interval_kind, unit_length, interval_length, full_lower, full_upper, margins_of}
+use Rattle.records.specs.Reading.{aged, ends_fit, mark_faults}
+use Rattle.terms.specs.declared.refusal.Fault.{Fault}
+use Rattle.terms.specs.declared.refusal.Fault.TheVariants as F
+use Rattle.terms.specs.Refusals.{check}
 
 -- a record of a kind and a length begins at a place, and lies there whole
 abbrev pub is_there : List ℕ → ℕ → ℕ → ℕ → Bool
@@ -25,9 +26,17 @@ is_interval s at = is_there s at interval_kind interval_length
 abbrev pub is_whole : List ℕ → ℕ → Bool
 is_whole s at = is_plain s at || is_interval s at
 
-unfoldable pub is_fine : Checked → Bool
-is_fine Fine = true
-is_fine (Faulty fault) = false
+-- 9 of margins and of ends; 9 of a 03h with ends of its own, and 19
+unfoldable pub pair_faults : UnitRecord → Result Unit Fault
+pair_faults u = check (le_z u.step_down u.step_up) F.Crossed (check (le_z u.lower u.upper) F.EndsCrossed (Ok tt))
+
+unfoldable pub working_faults : UnitRecord → Result Unit Fault
+working_faults u =
+    check (ends_fit u) F.NotFull (check (le_z (margins_of u).step_down (margins_of u).step_up) F.WorkingCrossed (Ok tt))
+
+unfoldable pub is_fine : Result Unit Fault → Bool
+is_fine (Ok tt) = true
+is_fine (Err fault) = false
 
 -- two margins, or two ends, lie in their ranges and do not cross
 abbrev pub is_pair : ℤ → ℤ → Bool

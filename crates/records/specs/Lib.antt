@@ -2,6 +2,5 @@
 pub mod Layouts
 pub mod Longest
 pub mod Reading
-pub mod Answers
 pub mod Decoding
 pub mod Inner

@@ -1,5 +1,5 @@
 -- "Numbers given back", for records that are read. Each record: 1 if empty, 2, 1, then fields; the first refused field ends the reading.
-use Rattle.std.specs.Prelude.{ℕ, zero, suc, ◌+◌, ◌-◌, Bool, true, ◌&&◌, ◌||◌, List, eqb, leb, ltb, pos, length}
+use Rattle.std.specs.Prelude.{ℕ, zero, suc, ◌+◌, ◌-◌, Bool, true, ◌&&◌, ◌||◌, List, eqb, leb, ltb, pos, length, Result, Ok, Err, Option, Some, None}
 use Rattle.std.specs.Int.Signed.{le_z}
 use Rattle.numbers.specs.Bytes.{byte_at}
 use Rattle.numbers.specs.Choice.{pick, eq_z}
@@ -11,15 +11,11 @@ use Rattle.terms.specs.declared.refusal.Why.{Why}
 use Rattle.terms.specs.declared.refusal.Why.TheVariants as W
 use Rattle.terms.specs.declared.refusal.Fault.{Fault}
 use Rattle.terms.specs.declared.refusal.Fault.TheVariants as F
-use Rattle.terms.specs.declared.refusal.Checked.{Checked}
-use Rattle.terms.specs.declared.refusal.Checked.TheVariants.{Fine, Faulty}
 use Rattle.records.specs.declared.day.DayRecord.{DayRecord}
 use Rattle.records.specs.declared.group.GroupRecord.{GroupRecord}
 use Rattle.records.specs.declared.unit.UnitRecord.{UnitRecord}
 use Rattle.records.specs.declared.end.EndRecord.{EndRecord}
 use Rattle.records.specs.declared.key.Key.{Key}
-use Rattle.records.specs.declared.key.Last.{Last}
-use Rattle.records.specs.declared.key.Last.TheVariants.{Nothing, Block}
 use Rattle.records.specs.Layouts.{day_kind, day_length, day_quarters, day_at, day_length_of}
 use Rattle.records.specs.Layouts.{group_kind, group_length, group_brp, group_quarter, group_count, group_made, group_at}
 use Rattle.records.specs.Layouts.{interval_kind, is_unit, unit_at, length_of, full_lower, full_upper, margins_of}
@@ -77,14 +73,14 @@ below a b =
     (ltb a.zone b.zone))
     (ltb a.brp b.brp)
 
-abbrev pub follows : Last → Key → Bool
-follows Nothing key = true
-follows (Block last) key = below last key
+abbrev pub follows : Option Key → Key → Bool
+follows None key = true
+follows (Some last) key = below last key
 
 abbrev pub key_of : GroupRecord → Key
 key_of g = record { brp = g.brp; zone = g.zone; quarter = g.quarter }
 
-unfoldable pub group_fields_of : List ℕ → DayRecord → Last → Reply GroupRecord
+unfoldable pub group_fields_of : List ℕ → DayRecord → Option Key → Reply GroupRecord
 group_fields_of s day last =
     need (ltb (group_at s 0).quarter day.quarters) 4 group_quarter.place
     (need (unit_count (group_at s 0).count) 5 group_count.place
@@ -95,7 +91,7 @@ group_fields_of s day last =
 abbrev pub group_head_of : List ℕ → Reply ℕ
 group_head_of s = head_of s 0 group_kind group_length
 
-unfoldable pub group_of : List ℕ → DayRecord → Last → Reply GroupRecord
+unfoldable pub group_of : List ℕ → DayRecord → Option Key → Reply GroupRecord
 group_of s day last = next (group_head_of s) λ _. group_fields_of s day last
 
 -- the day record that a group's units are judged by: the day's own
@@ -139,22 +135,22 @@ abbrev pub unit_in : List ℕ → ℕ → UnitRecord
 unit_in s i = unit_at s (unit_place s i)
 
 -- the checks that come after others, where those pass
-unfoldable pub also : Checked → Checked → Checked
-also Fine rest = rest
-also (Faulty fault) rest = Faulty fault
+unfoldable pub also : Result Unit Fault → Result Unit Fault → Result Unit Fault
+also (Ok tt) rest = rest
+also (Err fault) rest = Err fault
 
 -- 6 and 7; the floor is 0 for the first unit of a block, and then the number before plus 1
-unfoldable pub mark_faults : UnitRecord → ℕ → Checked
+unfoldable pub mark_faults : UnitRecord → ℕ → Result Unit Fault
 mark_faults u floor =
     check (leb floor u.number) F.Number
     (check (known_class u.class) F.Class
     (check (is_flag u.coincide) F.Coincide
     (check (is_flag u.nominated) F.Nominated
     (check (eqb u.nominated 1 || eq_z u.n.0 (pos 0)) F.NotNominated
-    Fine))))
+    (Ok tt)))))
 
 -- 8 for each quantity in turn
-unfoldable pub range_faults : UnitRecord → Checked
+unfoldable pub range_faults : UnitRecord → Result Unit Fault
 range_faults u =
     check (in_range u.n.0) F.N
     (check (in_range u.pc.0) F.Pc
@@ -162,32 +158,32 @@ range_faults u =
     (check (in_range u.step_up) F.StepUp
     (check (in_range u.lower) F.Lower
     (check (in_range u.upper) F.Upper
-    Fine)))))
+    (Ok tt))))))
 
 -- a 03h has the full ends
 abbrev pub ends_fit : UnitRecord → Bool
 ends_fit u = eqb u.kind interval_kind || (eq_z u.lower full_lower && eq_z u.upper full_upper)
 
 -- 9 of margins, of ends and of a 03h with ends of its own, then 19
-unfoldable pub order_faults : UnitRecord → Checked
+unfoldable pub order_faults : UnitRecord → Result Unit Fault
 order_faults u =
     check (le_z u.step_down u.step_up) F.Crossed
     (check (le_z u.lower u.upper) F.EndsCrossed
     (check (ends_fit u) F.NotFull
     (check (le_z (margins_of u).step_down (margins_of u).step_up) F.WorkingCrossed
-    Fine)))
+    (Ok tt))))
 
-unfoldable pub quantity_faults : UnitRecord → Checked
+unfoldable pub quantity_faults : UnitRecord → Result Unit Fault
 quantity_faults u = also (range_faults u) (order_faults u)
 
 -- what a unit's values can have wrong; 2 is of those given as columns, whose kind no head told
-unfoldable pub value_faults : UnitRecord → ℕ → Checked
+unfoldable pub value_faults : UnitRecord → ℕ → Result Unit Fault
 value_faults u floor = check (is_unit u.kind) F.Kind (also (mark_faults u floor) (quantity_faults u))
 
 -- the same, and then the age of its margins, by the day
-unfoldable pub unit_faults : UnitRecord → ℕ → DayRecord → Checked
+unfoldable pub unit_faults : UnitRecord → ℕ → DayRecord → Result Unit Fault
 unit_faults u floor day =
-    also (value_faults u floor) (check (aged day.run u.made day.margin_limit) (margin_fault day.run u.made) Fine)
+    also (value_faults u floor) (check (aged day.run u.made day.margin_limit) (margin_fault day.run u.made) (Ok tt))
 
 -- the place in the record of what is at fault
 abbrev pub fault_place : Fault → ℕ

@@ -8,10 +8,7 @@ use terms::refusal::{Fault, Why};
 pub fn is_aged(run: u32, made: u32, limit: u16) -> bool
     ensures { result ≡ aged run made limit }
 {
-    if run < made {
-        return false;
-    }
-    run - made <= (limit as u32)
+    made <= run && run - made <= u32::from(limit)
 }
 
 // Whether a minute lies after the run's: asked only of what is not aged.
@@ -31,7 +28,7 @@ pub fn position_why(run: u32, made: u32) -> Why
     Why::PositionAge
 }
 
-// The fault of margins that are not aged.
+// The fault of margins that are not aged. It has the shape of the function above, and answers what a unit does: one function of both would need a parameter for each answer.
 pub fn margin_fault(run: u32, made: u32) -> Fault
     ensures { result ≡ margin_fault run made }
 {

@@ -1,16 +1,15 @@
 // The day record, 01h.
 ghost use Rattle.std.specs.Prelude.{◌≡◌, ◌≤◌, length};
+ghost use Rattle.terms.specs.Refusals.{reply};
 ghost use Rattle.terms.specs.Reply.{is, need};
-ghost use Rattle.records.specs.Answers.{byte_reply, day_reply, day_refusal};
 ghost use Rattle.records.specs.Layouts.{day_length, day_quarters, day_with, day_at, day_length_of};
 ghost use Rattle.records.specs.Reading.{permitted, day_end, day_fields_of, day_of};
 
-use crate::field::ByteAnswer;
 use crate::head::head;
-use numbers::bytes::{u16_at, u32_at};
-use terms::refusal::{Answer, Refusal, Why, no_refusal};
+use numbers::bytes::Field;
+use terms::refusal::{Refusal, Why};
 
-#[derive(Clone, Copy)]
+#[derive(Clone, Copy, PartialEq, Eq, Debug)]
 pub struct DayRecord {
     pub day: u16,
     pub quarters: u8,
@@ -70,70 +69,51 @@ impl DayRecord {
     pub fn permits(quarters: u8) -> bool
         ensures { result ≡ permitted quarters }
     {
-        if quarters == DayRecord::SPRING {
-            return true;
-        }
-        if quarters == DayRecord::PLAIN {
-            return true;
-        }
-        quarters == DayRecord::AUTUMN
+        matches!(
+            quarters,
+            DayRecord::SPRING | DayRecord::PLAIN | DayRecord::AUTUMN
+        )
     }
 }
 
-#[derive(Clone, Copy)]
-pub enum DayAnswer {
-    Is(DayRecord),
-    Refused(Refusal),
-}
-
-impl DayAnswer {
-    pub fn refusal(self) -> Refusal
-        ensures { result ≡ day_refusal self }
-    {
-        match self {
-            DayAnswer::Is(_) => no_refusal(),
-            DayAnswer::Refused(r) => r,
-        }
-    }
-}
-
-fn quarters_at(s: &[u8]) -> ByteAnswer
+// The quarters, if a day can have so many. That the record is there stands in a clause: a type that held it would serve this function alone, since `day_fields` is public and keeps its own.
+#[tactic(auto, unfolding(terms::specs::Reply::need, crate::specs::Layouts::day_at))]
+fn quarters_at(s: &[u8]) -> Result<u8, Refusal>
     requires { day_length ≤ length s.now }
-    ensures { byte_reply result ≡ need (permitted (day_at s.now 0).quarters) 3 day_quarters.place (is (day_at s.now 0).quarters) }
+    ensures { reply result ≡ need (permitted (day_at s.now 0).quarters) 3 day_quarters.place (is (day_at s.now 0).quarters) }
 {
     let quarters = s[DayRecord::QUARTERS];
     if DayRecord::permits(quarters) {
-        return ByteAnswer::Is(quarters);
+        return Ok(quarters);
     }
-    ByteAnswer::Refused(Refusal {
+    Err(Refusal {
         why: Why::Quarters,
         place: DayRecord::QUARTERS,
     })
 }
 
 // The fields of a day record that is there whole.
-pub fn day_fields(s: &[u8]) -> DayAnswer
+#[tactic(auto, unfolding(terms::specs::Reply::need, crate::specs::Layouts::day_at, crate::specs::Reading::day_fields_of))]
+pub fn day_fields(s: &[u8]) -> Result<DayRecord, Refusal>
     requires { day_end s.now ≤ length s.now }
-    ensures { day_reply result ≡ day_fields_of s.now }
+    ensures { reply result ≡ day_fields_of s.now }
 {
-    let q = quarters_at(s);
-    let ByteAnswer::Is(quarters) = q else {
-        return DayAnswer::Refused(q.refusal());
+    let quarters = quarters_at(s);
+    let Ok(quarters) = quarters else {
+        return Err(quarters.unwrap_err());
     };
-    let day = u16_at(s, DayRecord::DAY);
-    let run = u32_at(s, DayRecord::RUN);
-    let position_limit = u16_at(s, DayRecord::POSITION_LIMIT);
-    let margin_limit = u16_at(s, DayRecord::MARGIN_LIMIT);
-    DayAnswer::Is(DayRecord::new(day, quarters, run, position_limit, margin_limit))
+    let day = u16::read(s, DayRecord::DAY);
+    let run = u32::read(s, DayRecord::RUN);
+    let position_limit = u16::read(s, DayRecord::POSITION_LIMIT);
+    let margin_limit = u16::read(s, DayRecord::MARGIN_LIMIT);
+    Ok(DayRecord::new(day, quarters, run, position_limit, margin_limit))
 }
 
 // The day record at the front of the bytes.
-pub fn read_day(s: &[u8]) -> DayAnswer
-    ensures { day_reply result ≡ day_of s.now }
+#[tactic(auto, unfolding(terms::specs::Reply::need, terms::specs::Reply::next, crate::specs::Reading::head_of, crate::specs::Reading::day_of))]
+pub fn read_day(s: &[u8]) -> Result<DayRecord, Refusal>
+    ensures { reply result ≡ day_of s.now }
 {
-    let h = head(s, 0, DayRecord::KIND, DayRecord::LEN);
-    let Answer::Is(_) = h else {
-        return DayAnswer::Refused(h.refusal());
-    };
+    head(s, 0, DayRecord::KIND, DayRecord::LEN)?;
     day_fields(s)
 }

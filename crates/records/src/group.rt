@@ -1,23 +1,21 @@
 // The group record, 02h.
 ghost use Rattle.std.specs.Prelude.{◌≡◌, ◌≤◌, ltb, length};
 ghost use Rattle.terms.specs.Reply.{is, need};
-ghost use Rattle.terms.specs.Refusals.{number_of};
+ghost use Rattle.terms.specs.Refusals.{number_of, reply};
 ghost use Rattle.terms.specs.Checks.{unit_count};
-ghost use Rattle.records.specs.Answers.{byte_reply, number_reply, key_reply, group_reply, group_refusal};
 ghost use Rattle.records.specs.Layouts.{group_length, group_brp, group_quarter, group_count, group_made, group_with, group_at};
 ghost use Rattle.records.specs.Reading.{aged, position_why, follows, key_of, judged_by, group_fields_of, group_of};
 
 use crate::age::{is_aged, position_why};
 use crate::day::DayRecord;
-use crate::field::{ByteAnswer, NumberAnswer};
 use crate::head::head;
-use crate::key::{Key, KeyAnswer, Last};
+use crate::key::Key;
 use crate::unit::UnitRecord;
-use numbers::bytes::{u16_at, u32_at};
+use numbers::bytes::Field;
 use terms::check::is_count;
-use terms::refusal::{Answer, Refusal, Why, no_refusal};
+use terms::refusal::{Refusal, Why};
 
-#[derive(Clone, Copy)]
+#[derive(Clone, Copy, PartialEq, Eq, Debug)]
 pub struct GroupRecord {
     pub brp: u16,
     pub zone: u8,
@@ -75,122 +73,106 @@ impl GroupRecord {
     }
 }
 
+// A group record that is there whole, at the front of the bytes.
 #[derive(Clone, Copy)]
-pub enum GroupAnswer {
-    Is(GroupRecord),
-    Refused(Refusal),
+struct Whole<'a> {
+    s: &'a [u8],
+    ghost there: { group_length ≤ length s.now },
 }
 
-impl GroupAnswer {
-    pub fn refusal(self) -> Refusal
-        ensures { result ≡ group_refusal self }
+impl<'a> Whole<'a> {
+    #[tactic(auto, unfolding(terms::specs::Reply::need, crate::specs::Layouts::group_at))]
+    fn quarter(&self, quarters: u8) -> Result<u8, Refusal>
+        ensures { reply result ≡ need (ltb (group_at self.now.s.now 0).quarter quarters) 4 group_quarter.place (is (group_at self.now.s.now 0).quarter) }
     {
-        match self {
-            GroupAnswer::Is(_) => no_refusal(),
-            GroupAnswer::Refused(r) => r,
+        let quarter = self.s[GroupRecord::QUARTER];
+        if quarter < quarters {
+            return Ok(quarter);
         }
+        Err(Refusal {
+            why: Why::Quarter,
+            place: GroupRecord::QUARTER,
+        })
+    }
+
+    #[tactic(auto, unfolding(terms::specs::Reply::need, crate::specs::Layouts::group_at))]
+    fn count(&self) -> Result<u8, Refusal>
+        ensures { reply result ≡ need (unit_count (group_at self.now.s.now 0).count) 5 group_count.place (is (group_at self.now.s.now 0).count) }
+    {
+        let count = self.s[GroupRecord::COUNT];
+        if GroupRecord::permits(usize::from(count)) {
+            return Ok(count);
+        }
+        Err(Refusal {
+            why: Why::UnitCount,
+            place: GroupRecord::COUNT,
+        })
+    }
+
+    #[tactic(auto, unfolding(terms::specs::Reply::need, crate::specs::Layouts::group_at))]
+    fn key(&self, last: Option<Key>) -> Result<Key, Refusal>
+        ensures { reply result ≡ need (follows last (key_of (group_at self.now.s.now 0))) 13 group_brp.place (is (key_of (group_at self.now.s.now 0))) }
+    {
+        let key = Key {
+            brp: u16::read(self.s, GroupRecord::BRP),
+            zone: self.s[GroupRecord::ZONE],
+            quarter: self.s[GroupRecord::QUARTER],
+        };
+        if key.follows(last) {
+            return Ok(key);
+        }
+        Err(Refusal {
+            why: Why::BlockOrder,
+            place: GroupRecord::BRP,
+        })
+    }
+
+    #[tactic(auto, unfolding(terms::specs::Reply::need, crate::specs::Layouts::group_at))]
+    fn made(&self, run: u32, limit: u16) -> Result<u32, Refusal>
+        ensures { reply result ≡ need (aged run (group_at self.now.s.now 0).made limit) (number_of (position_why run (group_at self.now.s.now 0).made)) group_made.place (is (group_at self.now.s.now 0).made) }
+    {
+        let made = u32::read(self.s, GroupRecord::MADE);
+        if is_aged(run, made, limit) {
+            return Ok(made);
+        }
+        Err(Refusal {
+            why: position_why(run, made),
+            place: GroupRecord::MADE,
+        })
     }
 }
 
-fn quarter_at(s: &[u8], quarters: u8) -> ByteAnswer
+// The fields of a group record that is there whole, as the next one of a day. Each field's answer is read by `let .. else`, which hands its refusal and place up, here and in `day` and `end`: docs/DECISIONS.md, "A field's answer is a `Result`".
+#[tactic(auto, unfolding(terms::specs::Reply::need, crate::specs::Layouts::group_at, crate::specs::Reading::group_fields_of))]
+pub fn group_fields(s: &[u8], day: DayRecord, last: Option<Key>) -> Result<GroupRecord, Refusal>
     requires { group_length ≤ length s.now }
-    ensures { byte_reply result ≡ need (ltb (group_at s.now 0).quarter quarters) 4 group_quarter.place (is (group_at s.now 0).quarter) }
+    ensures { reply result ≡ group_fields_of s.now day last }
 {
-    let quarter = s[GroupRecord::QUARTER];
-    if quarter < quarters {
-        return ByteAnswer::Is(quarter);
-    }
-    ByteAnswer::Refused(Refusal {
-        why: Why::Quarter,
-        place: GroupRecord::QUARTER,
-    })
-}
-
-fn count_at(s: &[u8]) -> ByteAnswer
-    requires { group_length ≤ length s.now }
-    ensures { byte_reply result ≡ need (unit_count (group_at s.now 0).count) 5 group_count.place (is (group_at s.now 0).count) }
-{
-    let count = s[GroupRecord::COUNT];
-    if GroupRecord::permits(count as usize) {
-        return ByteAnswer::Is(count);
-    }
-    ByteAnswer::Refused(Refusal {
-        why: Why::UnitCount,
-        place: GroupRecord::COUNT,
-    })
-}
-
-fn key_at(s: &[u8], last: Last) -> KeyAnswer
-    requires { group_length ≤ length s.now }
-    ensures { key_reply result ≡ need (follows last (key_of (group_at s.now 0))) 13 group_brp.place (is (key_of (group_at s.now 0))) }
-{
-    let key = Key {
-        brp: u16_at(s, GroupRecord::BRP),
-        zone: s[GroupRecord::ZONE],
-        quarter: s[GroupRecord::QUARTER],
+    let group = Whole { s };
+    let quarter = group.quarter(day.quarters);
+    let Ok(quarter) = quarter else {
+        return Err(quarter.unwrap_err());
     };
-    if last.precedes(key) {
-        return KeyAnswer::Is(key);
-    }
-    KeyAnswer::Refused(Refusal {
-        why: Why::BlockOrder,
-        place: GroupRecord::BRP,
-    })
-}
-
-fn made_at(s: &[u8], run: u32, limit: u16) -> NumberAnswer
-    requires { group_length ≤ length s.now }
-    ensures { number_reply result ≡ need (aged run (group_at s.now 0).made limit) (number_of (position_why run (group_at s.now 0).made)) group_made.place (is (group_at s.now 0).made) }
-{
-    let made = u32_at(s, GroupRecord::MADE);
-    if is_aged(run, made, limit) {
-        return NumberAnswer::Is(made);
-    }
-    NumberAnswer::Refused(Refusal {
-        why: position_why(run, made),
-        place: GroupRecord::MADE,
-    })
-}
-
-// The fields that are judged behind its quarter and its count, which are handed on.
-fn fields_behind(s: &[u8], day: DayRecord, last: Last, quarter: u8, count: u8) -> GroupAnswer
-    requires { (group_length ≤ length s.now) × ((quarter ≡ (group_at s.now 0).quarter) × (count ≡ (group_at s.now 0).count)) }
-    ensures { group_reply result ≡ need (follows last (key_of (group_at s.now 0))) 13 group_brp.place (need (aged day.run (group_at s.now 0).made day.position_limit) (number_of (position_why day.run (group_at s.now 0).made)) group_made.place (is (group_at s.now 0))) }
-{
-    let k = key_at(s, last);
-    let KeyAnswer::Is(key) = k else {
-        return GroupAnswer::Refused(k.refusal());
+    let count = group.count();
+    let Ok(count) = count else {
+        return Err(count.unwrap_err());
     };
-    let m = made_at(s, day.run, day.position_limit);
-    let NumberAnswer::Is(made) = m else {
-        return GroupAnswer::Refused(m.refusal());
+    let key = group.key(last);
+    let Ok(key) = key else {
+        return Err(key.unwrap_err());
     };
-    GroupAnswer::Is(GroupRecord::new(key.brp, key.zone, quarter, count, made))
-}
-
-// The fields of a group record that is there whole, as the next one of a day.
-pub fn group_fields(s: &[u8], day: DayRecord, last: Last) -> GroupAnswer
-    requires { group_length ≤ length s.now }
-    ensures { group_reply result ≡ group_fields_of s.now day last }
-{
-    let q = quarter_at(s, day.quarters);
-    let ByteAnswer::Is(quarter) = q else {
-        return GroupAnswer::Refused(q.refusal());
+    let made = group.made(day.run, day.position_limit);
+    let Ok(made) = made else {
+        return Err(made.unwrap_err());
     };
-    let n = count_at(s);
-    let ByteAnswer::Is(count) = n else {
-        return GroupAnswer::Refused(n.refusal());
-    };
-    fields_behind(s, day, last, quarter, count)
+    Ok(GroupRecord::new(key.brp, key.zone, quarter, count, made))
 }
 
 // The group record at the front of the bytes.
-pub fn read_group(s: &[u8], day: DayRecord, last: Last) -> GroupAnswer
-    ensures { group_reply result ≡ group_of s.now day last }
+#[tactic(auto, unfolding(terms::specs::Reply::need, terms::specs::Reply::next, crate::specs::Reading::head_of, crate::specs::Reading::group_of))]
+pub fn read_group(s: &[u8], day: DayRecord, last: Option<Key>) -> Result<GroupRecord, Refusal>
+    ensures { reply result ≡ group_of s.now day last }
 {
-    let h = head(s, 0, GroupRecord::KIND, GroupRecord::LEN);
-    let Answer::Is(_) = h else {
-        return GroupAnswer::Refused(h.refusal());
-    };
+    head(s, 0, GroupRecord::KIND, GroupRecord::LEN)?;
     group_fields(s, day, last)
 }

@@ -3,11 +3,12 @@ ghost use Rattle.std.specs.Prelude.{◌≡◌};
 
 use terms::quantity::{Nomination, Position};
 
-#[derive(Clone, Copy)]
+#[derive(Clone, Copy, PartialEq, Eq, Debug)]
 pub struct GroupResult {
     pub brp: u16,
     pub zone: u8,
     pub quarter: u8,
+    // The byte of the record, as `verdict_of` sums it.
     pub verdict: u8,
     pub count: u8,
     pub p: Position,

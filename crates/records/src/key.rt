@@ -1,12 +1,9 @@
 // What blocks are ordered by.
 ghost use Rattle.std.specs.Prelude.{◌≡◌};
-ghost use Rattle.records.specs.Answers.{key_refusal};
 ghost use Rattle.records.specs.Reading.{below, follows};
 
-use terms::refusal::{Refusal, no_refusal};
-
-// A BRP, a zone and a quarter.
-#[derive(Clone, Copy)]
+// A BRP, a zone and a quarter, in whose order blocks come.
+#[derive(Clone, Copy, PartialEq, Eq, PartialOrd, Ord, Debug)]
 pub struct Key {
     pub brp: u16,
     pub zone: u8,
@@ -18,49 +15,16 @@ impl Key {
     pub fn is_below(self, other: Key) -> bool
         ensures { result ≡ below self other }
     {
-        if self.brp != other.brp {
-            return self.brp < other.brp;
-        }
-        if self.zone != other.zone {
-            return self.zone < other.zone;
-        }
-        self.quarter < other.quarter
+        self < other
     }
-}
 
-// The last block accepted of a day, where there is one.
-#[derive(Clone, Copy)]
-pub enum Last {
-    Nothing,
-    Block(Key),
-}
-
-impl Last {
-    // Whether a block of this key may come after it.
-    pub fn precedes(self, key: Key) -> bool
-        ensures { result ≡ follows self key }
+    // Whether a block of this key may come after the last one accepted, where there is one.
+    pub fn follows(self, last: Option<Key>) -> bool
+        ensures { result ≡ follows last self }
     {
-        match self {
-            Last::Nothing => true,
-            Last::Block(last) => last.is_below(key),
-        }
-    }
-}
-
-// A block's key, or a refusal.
-#[derive(Clone, Copy)]
-pub enum KeyAnswer {
-    Is(Key),
-    Refused(Refusal),
-}
-
-impl KeyAnswer {
-    pub fn refusal(self) -> Refusal
-        ensures { result ≡ key_refusal self }
-    {
-        match self {
-            KeyAnswer::Is(_) => no_refusal(),
-            KeyAnswer::Refused(r) => r,
+        match last {
+            None => true,
+            Some(last) => last.is_below(self),
         }
     }
 }

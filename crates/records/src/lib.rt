@@ -5,7 +5,6 @@ pub mod age;
 pub mod day;
 pub mod end;
 pub mod faults;
-pub mod field;
 pub mod group;
 pub mod group_result;
 pub mod head;

@@ -1,13 +1,13 @@
 // The unit record: 03h, and 04h with an interval of its own.
 ghost use Rattle.std.specs.Prelude.{◌≡◌, ◌+◌, ◌≤◌, length};
-ghost use Rattle.records.specs.Layouts.{unit_length, interval_length, is_unit, unit_with, with_ends, body_at, interval_at, unit_at, length_of, larger_of, smaller_of, margins_of};
+ghost use Rattle.records.specs.Layouts.{unit_length, interval_length, is_unit, unit_with, with_ends, body_at, interval_at, unit_at, length_of, margins_of};
 ghost use Rattle.records.specs.Reading.{fault_place, unit_end};
 
-use numbers::bytes::{i32_at, u16_at, u32_at};
+use numbers::bytes::Field;
 use terms::quantity::{Margins, Nomination, Position};
 use terms::refusal::Fault;
 
-#[derive(Clone, Copy)]
+#[derive(Clone, Copy, PartialEq, Eq, Debug)]
 pub struct UnitRecord {
     pub number: u16,
     pub class: u8,
@@ -18,6 +18,7 @@ pub struct UnitRecord {
     pub step_down: i32,
     pub step_up: i32,
     pub made: u32,
+    // Marks and kind are bytes as they lie: of each other value a refusal is promised (`mark_faults`, `value_faults`).
     pub kind: u8,
     pub lower: i32,
     pub upper: i32,
@@ -58,7 +59,7 @@ impl UnitRecord {
     // N, PC, the margins and the ends lie from -LIMIT to LIMIT, which are the ends of a 03h.
     pub const LIMIT: i32 = Nomination::LIMIT;
 
-    // A 03h of these values.
+    // A 03h of these values: a public constructor, whose contract names them all.
     pub fn new(
         number: u16,
         class: u8,
@@ -92,23 +93,11 @@ impl UnitRecord {
     pub fn with_ends(self, kind: u8, lower: i32, upper: i32) -> UnitRecord
         ensures { result ≡ with_ends self kind lower upper }
     {
-        let n = self.n;
-        let pc = self.pc;
-        let step_down = self.step_down;
-        let step_up = self.step_up;
         UnitRecord {
-            number: self.number,
-            class: self.class,
-            coincide: self.coincide,
-            nominated: self.nominated,
-            n,
-            pc,
-            step_down,
-            step_up,
-            made: self.made,
             kind,
             lower,
             upper,
+            ..self
         }
     }
 
@@ -128,8 +117,8 @@ impl UnitRecord {
     {
         if self.kind == UnitRecord::INTERVAL_KIND {
             return Margins {
-                step_down: larger(self.step_down, self.lower),
-                step_up: smaller(self.step_up, self.upper),
+                step_down: self.step_down.max(self.lower),
+                step_up: self.step_up.min(self.upper),
             };
         }
         Margins {
@@ -169,28 +158,7 @@ impl UnitRecord {
 pub fn is_unit(kind: u8) -> bool
     ensures { result ≡ is_unit kind }
 {
-    if kind == UnitRecord::KIND {
-        return true;
-    }
-    kind == UnitRecord::INTERVAL_KIND
-}
-
-fn larger(a: i32, b: i32) -> i32
-    ensures { result ≡ larger_of a b }
-{
-    if a <= b {
-        return b;
-    }
-    a
-}
-
-fn smaller(a: i32, b: i32) -> i32
-    ensures { result ≡ smaller_of a b }
-{
-    if a <= b {
-        return a;
-    }
-    b
+    kind == UnitRecord::KIND || kind == UnitRecord::INTERVAL_KIND
 }
 
 // The body of a unit record, which is all of a 03h.
@@ -198,15 +166,15 @@ pub fn body_fields(s: &[u8], at: usize) -> UnitRecord
     requires { at + unit_length ≤ length s.now }
     ensures { result ≡ body_at s.now at }
 {
-    let number = u16_at(s, at + UnitRecord::NUMBER);
+    let number = u16::read(s, at + UnitRecord::NUMBER);
     let class = s[at + UnitRecord::CLASS];
     let coincide = s[at + UnitRecord::COINCIDE];
     let nominated = s[at + UnitRecord::NOMINATED];
-    let n = Nomination(i32_at(s, at + UnitRecord::N));
-    let pc = Position(i32_at(s, at + UnitRecord::PC));
-    let step_down = i32_at(s, at + UnitRecord::STEP_DOWN);
-    let step_up = i32_at(s, at + UnitRecord::STEP_UP);
-    let made = u32_at(s, at + UnitRecord::MADE);
+    let n = Nomination(i32::read(s, at + UnitRecord::N));
+    let pc = Position(i32::read(s, at + UnitRecord::PC));
+    let step_down = i32::read(s, at + UnitRecord::STEP_DOWN);
+    let step_up = i32::read(s, at + UnitRecord::STEP_UP);
+    let made = u32::read(s, at + UnitRecord::MADE);
     UnitRecord::new(
         number, class, coincide, nominated, n, pc, step_down, step_up, made,
     )
@@ -217,8 +185,8 @@ pub fn interval_fields(s: &[u8], at: usize) -> UnitRecord
     requires { at + interval_length ≤ length s.now }
     ensures { result ≡ interval_at s.now at }
 {
-    let lower = i32_at(s, at + UnitRecord::LOWER);
-    let upper = i32_at(s, at + UnitRecord::UPPER);
+    let lower = i32::read(s, at + UnitRecord::LOWER);
+    let upper = i32::read(s, at + UnitRecord::UPPER);
     body_fields(s, at).with_ends(UnitRecord::INTERVAL_KIND, lower, upper)
 }
 

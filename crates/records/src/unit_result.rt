@@ -3,9 +3,10 @@ ghost use Rattle.std.specs.Prelude.{◌≡◌};
 
 use terms::quantity::Nomination;
 
-#[derive(Clone, Copy)]
+#[derive(Clone, Copy, PartialEq, Eq, Debug)]
 pub struct UnitResult {
     pub number: u16,
+    // The byte of the record, as `reason_of` sums it.
     pub reason: u8,
     pub n0: Nomination,
     pub n1: Nomination,

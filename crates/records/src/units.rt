@@ -1,7 +1,6 @@
-// The units of a block, read one after another.
+// The units of a block, read one after another from lent bytes: a slice and the place of the next.
 ghost use Rattle.std.specs.Prelude.{◌≡◌, ◌≤◌, length};
-ghost use Rattle.terms.specs.Refusals.{answer};
-ghost use Rattle.records.specs.Answers.{unit_reply, unit_refusal};
+ghost use Rattle.terms.specs.Refusals.{reply};
 ghost use Rattle.records.specs.Inner.{is_plain, is_interval, is_whole};
 ghost use Rattle.records.specs.Layouts.{unit_at, length_of};
 ghost use Rattle.records.specs.Reading.{kind_due, unit_head_of, unit_end, unit_fields_of, unit_of, units_of};
@@ -10,24 +9,7 @@ use crate::day::DayRecord;
 use crate::faults::unit_faults;
 use crate::head::{head, is_there};
 use crate::unit::{UnitRecord, unit_end, unit_fields};
-use terms::refusal::{Answer, Checked, Refusal, no_refusal};
-
-#[derive(Clone, Copy)]
-pub enum UnitAnswer {
-    Is(UnitRecord),
-    Refused(Refusal),
-}
-
-impl UnitAnswer {
-    pub fn refusal(self) -> Refusal
-        ensures { result ≡ unit_refusal self }
-    {
-        match self {
-            UnitAnswer::Is(_) => no_refusal(),
-            UnitAnswer::Refused(r) => r,
-        }
-    }
-}
+use terms::refusal::Refusal;
 
 // Whether a 03h begins at a place, and lies there whole.
 pub fn is_plain(s: &[u8], at: usize) -> bool
@@ -47,10 +29,7 @@ pub fn is_interval(s: &[u8], at: usize) -> bool
 fn is_whole(s: &[u8], at: usize) -> bool
     ensures { result ≡ is_whole s.now at }
 {
-    if is_plain(s, at) {
-        return true;
-    }
-    is_interval(s, at)
+    is_plain(s, at) || is_interval(s, at)
 }
 
 // The kind of unit record that is due at a place: 04h where one begins there, and else 03h.
@@ -77,57 +56,47 @@ pub fn unit_length(s: &[u8], at: usize) -> usize
 }
 
 // Where the unit record that is to begin at a place ends: 1 if nothing is there, 2, 1. Whether it lies there whole is one look, and what is wrong is asked only where it does not.
-pub fn unit_head(s: &[u8], at: usize) -> Answer
-    ensures { answer result ≡ unit_head_of s.now at }
+pub fn unit_head(s: &[u8], at: usize) -> Result<usize, Refusal>
+    ensures { reply result ≡ unit_head_of s.now at }
 {
     if is_whole(s, at) {
-        return Answer::Is(unit_end(s, at));
+        return Ok(unit_end(s, at));
     }
     head(s, at, kind_due(s, at), unit_length(s, at))
 }
 
-// A unit record that is there whole, judged by the day.
-fn unit_judged(s: &[u8], at: usize, floor: u32, day: DayRecord) -> UnitAnswer
+// A unit record that is there whole, judged by the day. That it is there stands in a clause: a type that held it would serve this function alone, since `unit_fields` and `unit_end` are public and keep theirs.
+#[tactic(auto, unfolding(terms::specs::Refusals::passed, crate::specs::Reading::unit_fields_of))]
+fn unit_judged(s: &[u8], at: usize, floor: u32, day: DayRecord) -> Result<UnitRecord, Refusal>
     requires { unit_end s.now at ≤ length s.now }
-    ensures { unit_reply result ≡ unit_fields_of s.now at floor day }
+    ensures { reply result ≡ unit_fields_of s.now at floor day }
 {
     let u = unit_fields(s, at);
-    let c = unit_faults(u, floor, day);
-    let Checked::Faulty(fault) = c else {
-        return UnitAnswer::Is(u);
-    };
-    UnitAnswer::Refused(Refusal {
-        why: fault.why(),
-        place: at + UnitRecord::place_of(fault),
-    })
+    match unit_faults(u, floor, day) {
+        Ok(()) => Ok(u),
+        Err(fault) => Err(fault.at(at + UnitRecord::place_of(fault))),
+    }
 }
 
 // The unit record at a place: its number is at least the floor, its margins are no older than the day allows.
-pub fn unit_at(s: &[u8], at: usize, floor: u32, day: DayRecord) -> UnitAnswer
-    ensures { unit_reply result ≡ unit_of s.now at floor day }
+#[tactic(auto, unfolding(terms::specs::Reply::need, terms::specs::Reply::next, crate::specs::Reading::head_of, crate::specs::Reading::unit_of))]
+pub fn unit_at(s: &[u8], at: usize, floor: u32, day: DayRecord) -> Result<UnitRecord, Refusal>
+    ensures { reply result ≡ unit_of s.now at floor day }
 {
-    let h = unit_head(s, at);
-    let Answer::Is(_) = h else {
-        return UnitAnswer::Refused(h.refusal());
-    };
+    unit_head(s, at)?;
     unit_judged(s, at, floor, day)
 }
 
 // So many units from a place on: the first refusal, or where they end.
-pub fn units_from(s: &[u8], at: usize, count: usize, day: DayRecord) -> Answer
-    ensures { answer result ≡ units_of s.now at 0 day count }
+pub fn units_from(s: &[u8], at: usize, count: usize, day: DayRecord) -> Result<usize, Refusal>
+    ensures { reply result ≡ units_of s.now at 0 day count }
 {
     let mut floor: u32 = 0;
     let mut here = at;
-    let mut i = 0;
-    while i < count {
-        let r = unit_at(s, here, floor, day);
-        let UnitAnswer::Is(u) = r else {
-            return Answer::Refused(r.refusal());
-        };
-        floor = (u.number as u32) + 1;
+    for _ in 0..count {
+        let u = unit_at(s, here, floor, day)?;
+        floor = u32::from(u.number) + 1;
         here += u.length();
-        i += 1;
     }
-    Answer::Is(here)
+    Ok(here)
 }

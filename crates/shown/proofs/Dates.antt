@@ -11,25 +11,24 @@ use Rattle.numbers.specs.Choice.{pick}
 use Rattle.numbers.specs.Decimal.{digit, all_digits, number_from}
 use Rattle.calendar.specs.declared.date.Date.{Date}
 use Rattle.calendar.specs.declared.moment.Moment.{Moment}
-use Rattle.calendar.specs.declared.moment.Shown.TheVariants.{At, Later}
+use Rattle.std.specs.Prelude.{Some, None}
 use Rattle.calendar.specs.Calendar.{date_of, moment_of, shown_of, last_minute}
 use Rattle.calendar.proofs.Trips.{day-date, minute-moment}
 use Rattle.numbers.proofs.Digits.{some-digit}
 use Rattle.numbers.proofs.ReadBack.{digit-is}
-use Rattle.text.specs.declared.numbers_in.Size.TheVariants.{Is}
 use Rattle.text.specs.Numbers.{size_of, field_of}
 use Rattle.text.specs.Dates.{has_date, date_spelled, has_time, moment_in, day_in, minute_in}
 use Rattle.shown.specs.Inner.{Few, FewMoment}
 use Rattle.shown.specs.Shown.{two_digits, date_word, moment_word, day_shown, minute_shown, shown_as, whole}
-use Rattle.shown.proofs.Few.{few-date, few-moment}
+use Rattle.shown.proofs.Few.{few_date, few-moment}
 use Rattle.shown.proofs.Figures.{size_is, minute-read, solid-more, solid-decimal}
 
-two_size : (n : ℕ) → n < 100 → size_of (two_digits n) ≡ Is n
+two_size : (n : ℕ) → n < 100 → size_of (two_digits n) ≡ Some n
 unfolding all_digits number_from
 two_size n h =
     size_is (two_digits n) n (omega arith) (rw (digit-is (n / 10) (omega arith), digit-is (n % 10) (omega arith))) (omega arith) (omega arith)
 
-four-size : (n : ℕ) → n < 10000 → size_of (two_digits (n / 100) ++ two_digits (n % 100)) ≡ Is n
+four-size : (n : ℕ) → n < 10000 → size_of (two_digits (n / 100) ++ two_digits (n % 100)) ≡ Some n
 unfolding all_digits number_from
 four-size n h =
     size_is (two_digits (n / 100) ++ two_digits (n % 100)) n (omega arith)
@@ -75,7 +74,7 @@ pub shown-day-back : (n : ℕ) → n < 2921940 → day_in (day_shown n) ≡ whol
 unfolding day_in day_shown
 shown-day-back n h =
     let d = date_of n in
-    let f = few-date n h in
+    let f = few_date n h in
     let form = rw append-nil at (date-form d f []) in
     let back = rw append-nil at (date-back d f []) in
     rw (date-length d, form, back, day-date n h)
@@ -91,7 +90,7 @@ pub shown-minute-back : (n : ℕ) → n ≤ 4294967295 → minute_in (minute_sho
 unfolding minute_shown shown_of
 shown-minute-back n h = go (leb n last_minute) refl
   where
-    go : (t : Bool) → leb n last_minute ≡ t → minute_in (shown_as n (pick t (At (moment_of n)) Later)) ≡ whole n
+    go : (t : Bool) → leb n last_minute ≡ t → minute_in (shown_as n (pick t (Some (moment_of n)) None)) ≡ whole n
     go true e = at_back n (leb-true n last_minute e)
     go false e = minute-read n h
 
@@ -135,7 +134,7 @@ pub solid-minute : (n : ℕ) → field_of (minute_shown n) ≡ minute_shown n
 unfolding minute_shown shown_of
 solid-minute n = go (leb n last_minute)
   where
-    go : (t : Bool) → field_of (shown_as n (pick t (At (moment_of n)) Later)) ≡ shown_as n (pick t (At (moment_of n)) Later)
+    go : (t : Bool) → field_of (shown_as n (pick t (Some (moment_of n)) None)) ≡ shown_as n (pick t (Some (moment_of n)) None)
     go true = moment-solid (moment_of n)
     go false = solid-decimal n
 
@@ -143,6 +142,6 @@ pub long-minute : (n : ℕ) → 0 < length (minute_shown n)
 unfolding minute_shown shown_of
 long-minute n = go (leb n last_minute)
   where
-    go : (t : Bool) → 0 < length (shown_as n (pick t (At (moment_of n)) Later))
+    go : (t : Bool) → 0 < length (shown_as n (pick t (Some (moment_of n)) None))
     go true = omega (arith, moment-length (moment_of n))
     go false = omega (arith, some-digit n)

@@ -8,7 +8,7 @@ use lib.Dec.{leb}
 use Rattle.numbers.specs.Choice.{pick}
 use Rattle.calendar.specs.declared.date.Date.{Date}
 use Rattle.calendar.specs.declared.moment.Moment.{Moment}
-use Rattle.calendar.specs.declared.moment.Shown.TheVariants.{At, Later}
+use Rattle.std.specs.Prelude.{Some, None}
 use Rattle.calendar.specs.Calendar.{date_of, moment_of, shown_of, last_minute}
 use Rattle.calendar.proofs.Lengths.{month-range}
 use Rattle.calendar.proofs.Valid.{Valid, valid}
@@ -20,8 +20,8 @@ few-valid d v =
     let m = month-range d.year d.month in
     record { year = omega (arith, v.year-to); month = omega (arith, v.month-to); day = omega (arith, v.day-to, m.to) }
 
-pub few-date : (n : ℕ) → n < 2921940 → Few (date_of n)
-few-date n h = few-valid (date_of n) (date-valid n h)
+pub few_date : (n : ℕ) → n < 2921940 → Few (date_of n)
+few_date n h = few-valid (date_of n) (date-valid n h)
 
 pub few-moment : (n : ℕ) → n ≤ last_minute → FewMoment (moment_of n)
 few-moment n h =
@@ -32,11 +32,11 @@ few-moment n h =
       minute = omega (arith, v.minute-to);
     }
 
-pub few-shown : (n : ℕ) (m : Moment) → shown_of n ≡ At m → FewMoment m
+pub few_shown : (n : ℕ) (m : Moment) → shown_of n ≡ Some m → FewMoment m
 unfolding shown_of
-few-shown n m e = go (leb n last_minute) refl e
+few_shown n m e = go (leb n last_minute) refl e
   where
-    go : (t : Bool) → leb n last_minute ≡ t → pick t (At (moment_of n)) Later ≡ At m → FewMoment m
+    go : (t : Bool) → leb n last_minute ≡ t → pick t (Some (moment_of n)) None ≡ Some m → FewMoment m
     go true l e =
         let z : moment_of n ≡ m = cc in
         rw (← z) (few-moment n (leb-true n last_minute l))

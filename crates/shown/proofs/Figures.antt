@@ -11,12 +11,12 @@ use Rattle.numbers.specs.Decimal.{decimal, is_digit, all_digits, number_from}
 use Rattle.numbers.proofs.Choices.{and_both}
 use Rattle.numbers.proofs.Digits.{some-digit, no_more}
 use Rattle.numbers.proofs.ReadBack.{decimal-all, decimal-number}
-use Rattle.text.specs.declared.numbers_in.Size.TheVariants.{Is}
+use Rattle.std.specs.Prelude.{Some}
 use Rattle.text.specs.Numbers.{size_from, size_of, field_of, minus, number_in}
 use Rattle.text.specs.Dates.{day_in, minute_in}
 use Rattle.shown.specs.Shown.{whole}
 
-pub size_is : (s : List ℕ) (n : ℕ) → 0 < length s → all_digits s ≡ true → number_from 0 s ≡ n → n ≤ 4294967295 → size_of s ≡ Is n
+pub size_is : (s : List ℕ) (n : ℕ) → 0 < length s → all_digits s ≡ true → number_from 0 s ≡ n → n ≤ 4294967295 → size_of s ≡ Some n
 unfolding size_of size_from
 size_is s n l a e h = rw (lt-ltb 0 (length s) l, a, e, le-leb n 4294967295 h)
 

@@ -7,12 +7,13 @@ use native.Mathlib.Omega.{arith}
 use borrow.Author.Tests.{le-leb}
 use lib.ListN.{length, drop, length-append}
 use lib.Seq.{drop_at}
+use Rattle.std.specs.Prelude.{Ok}
 use Rattle.numbers.specs.Choice.{pick}
 use Rattle.text.specs.declared.fields.Field.{Field}
 use Rattle.text.specs.declared.values_in.Form.{Form}
 use Rattle.text.specs.Numbers.{is_blank, blanks, field_of}
 use Rattle.text.specs.Dates.{value_in, whole_at}
-use Rattle.text.specs.Fields.{field_at, unsigned_at}
+use Rattle.text.specs.Fields.{field_at, unsigned_of, value_after}
 use Rattle.shown.specs.Shown.{whole}
 
 -- a field of one byte or more, with no blank in it
@@ -45,7 +46,7 @@ starts (b ∷ w) rest word = rw (no-blank b w word.solid).0
 module _ (text front w rest : List ℕ) (so : text ≡ front ++ ((32 ∷ w) ++ rest)) (word : Word w) (end : field_of (w ++ rest) ≡ w) where
   -- where it stands
   abbrev pub place : ℕ → Field
-  place index = record { index = index; start = length front + 1; end = length front + 1 + length w; good = true }
+  place index = record { index = index; start = length front + 1; end = length front + 1 + length w }
 
   behind : drop (length front) text ≡ (32 ∷ w) ++ rest
   behind = rw so (drop_at front ((32 ∷ w) ++ rest) (length front) refl)
@@ -63,7 +64,7 @@ module _ (text front w rest : List ℕ) (so : text ≡ front ++ ((32 ∷ w) ++ r
   unfolding field_at
   stands_at index = rw (one-blank, at-word, end)
 
-  pub reads : (form : Form) (most index n : ℕ) (before : Field) → before.good ≡ true → before.end ≡ length front → value_in form w ≡ whole n → n ≤ most
-      → unsigned_at form most text index before ≡ record { value = n; field = place index }
-  unfolding unsigned_at whole_at
-  reads form most index n before g e v h = rw (g, e, stands_at index, at-word, end, v, le-leb n most h)
+  pub reads : (form : Form) (most index n before : ℕ) → before ≡ length front → value_in form w ≡ whole n → n ≤ most
+      → value_after (unsigned_of most) form text index before ≡ Ok (record { value = n; end = length front + 1 + length w })
+  unfolding value_after whole_at
+  reads form most index n before e v h = rw (e, stands_at index, at-word, end, v, le-leb n most h)

@@ -1,18 +1,14 @@
 -- `daylist --dates`: the DAY line with dates, `DAY 2026-01-14 96 2026-01-13T14:00Z`, and any other line as it is. A line is its bytes without the line feed.
-use Rattle.std.specs.Prelude.{ℕ, ◌+◌, ◌/◌, ◌%◌, ◌≤◌, ◌≡◌, true, false, List, [], ◌∷◌, ◌++◌, ltb, length}
+use Rattle.std.specs.Prelude.{ℕ, ◌+◌, ◌/◌, ◌%◌, ◌≤◌, ◌≡◌, List, [], ◌∷◌, ◌++◌, ℤ, pos, Option, Some, None, ltb, length}
 use Rattle.numbers.specs.Bytes.{laid_at}
 use Rattle.numbers.specs.Choice.{pick}
 use Rattle.numbers.specs.Decimal.{digit, decimal}
 use Rattle.calendar.specs.declared.date.Date.{Date}
 use Rattle.calendar.specs.declared.moment.Moment.{Moment}
-use Rattle.calendar.specs.declared.moment.Shown.{Shown}
-use Rattle.calendar.specs.declared.moment.Shown.TheVariants.{At, Later}
 use Rattle.calendar.specs.Calendar.{date_of, shown_of}
 use Rattle.lines.specs.Lines.{spaced, line, day_line, u32_field}
 use Rattle.records.specs.declared.day.DayRecord.{DayRecord}
-use Rattle.text.specs.declared.numbers_in.Whole.{Whole}
-use Rattle.text.specs.declared.line.DayLine.{DayLine}
-use Rattle.text.specs.declared.line.DayLine.TheVariants.{Is, No}
+use Rattle.text.specs.declared.line.Listed.{Listed}
 use Rattle.text.specs.Line.{day_word, listed_of}
 
 -- ---- words
@@ -32,25 +28,25 @@ unfoldable pub day_shown : ℕ → List ℕ
 day_shown n = date_word (date_of n)
 
 -- a minute as its moment; one that is later than all of them stays a number
-abbrev pub shown_as : ℕ → Shown → List ℕ
-shown_as n (At m) = moment_word m
-shown_as n Later = decimal n
+abbrev pub shown_as : ℕ → Option Moment → List ℕ
+shown_as n (Some m) = moment_word m
+shown_as n None = decimal n
 
 unfoldable pub minute_shown : ℕ → List ℕ
 minute_shown n = shown_as n (shown_of n)
 
 -- what a word reads as that stands for a number
-abbrev pub whole : ℕ → Whole
-whole n = record { negative = false; size = n; good = true }
+abbrev pub whole : ℕ → Option ℤ
+whole n = Some (pos n)
 
 -- ---- the line
 -- DAY day quarters run
 unfoldable pub dated_line : ℕ → ℕ → ℕ → List ℕ
 dated_line day quarters run = spaced day_word (day_shown day ∷ decimal quarters ∷ minute_shown run ∷ [])
 
-abbrev pub shown_by : DayLine → List ℕ → List ℕ
-shown_by (Is day quarters run) s = dated_line day quarters run
-shown_by No s = s
+abbrev pub shown_by : Option Listed → List ℕ → List ℕ
+shown_by (Some told) s = dated_line told.day told.quarters told.run
+shown_by None s = s
 
 unfoldable pub shown_line : List ℕ → List ℕ
 shown_line s = shown_by (listed_of s) s
@@ -61,9 +57,9 @@ abbrev pub longest_dated : ℕ
 longest_dated = 3 + (1 + 10) + u32_field + (1 + 17)
 
 -- the room that a line asks for
-abbrev pub room_by : DayLine → List ℕ → ℕ
-room_by (Is day quarters run) s = longest_dated
-room_by No s = length s
+abbrev pub room_by : Option Listed → List ℕ → ℕ
+room_by (Some told) s = longest_dated
+room_by None s = length s
 
 -- a room that is too small stays as it was
 unfoldable pub shown_in : List ℕ → List ℕ → List ℕ

@@ -1,15 +1,16 @@
 // A line of the day list as `daylist --dates` shows it.
-ghost use Rattle.std.specs.Prelude.{[], ltb, length};
+ghost use Rattle.std.specs.Prelude.{[], ◌≤◌, ltb, length};
 ghost use Rattle.numbers.specs.Choice.{pick};
 ghost use Rattle.shown.specs.Shown.{dated_line, longest_dated, shown_in, Fronts};
 
 use crate::words::lay_dated;
 use lines::field::lay_word;
-use text::line::{DayLine, day_line_in};
+use text::line::day_line_in;
 
 // A DAY line's most bytes: its word, a date, the quarters and a moment, each after a space.
 pub const DATED: usize = 3 + (1 + 10) + (1 + 10) + (1 + 17);
 
+#[tactic(auto, using(numbers::proofs::Laid::laid_none))]
 fn show_dated(day: u16, quarters: u8, run: u32, room: &mut [u8]) -> usize
     ensures { Fronts (pick (ltb (length room.old) longest_dated) [] (dated_line day quarters run)) room.old result room.new }
 {
@@ -19,6 +20,7 @@ fn show_dated(day: u16, quarters: u8, run: u32, room: &mut [u8]) -> usize
     lay_dated(room, day, quarters, run)
 }
 
+#[tactic(auto, using(numbers::proofs::Laid::laid_none))]
 fn show_same(line: &[u8], room: &mut [u8]) -> usize
     ensures { Fronts (pick (ltb (length room.old) (length line.now)) [] line.now) room.old result room.new }
 {
@@ -28,13 +30,14 @@ fn show_same(line: &[u8], room: &mut [u8]) -> usize
     lay_word(room, 0, line)
 }
 
-// The line with its dates where it is the DAY line, and else as it is, at the front of a room; its length, or 0 and nothing in a room that is too small.
+// The line with its dates where it is the DAY line, and else as it is, at the front of a room; its length, or 0 and nothing in a room that is too small: `Fronts` tells the length of what was written, which of nothing is 0, so this is no Option.
+#[tactic(auto, using(crate::proofs::Fits::fits), unfolding(crate::specs::Shown::shown_in, crate::specs::Shown::shown_line))]
 pub fn show(line: &[u8], room: &mut [u8]) -> usize
-    ensures { Fronts (shown_in line.now room.old) room.old result room.new }
+    ensures shown { Fronts (shown_in line.now room.old) room.old result room.new }
+    ensures within { result ≤ length room.new }
 {
-    let read = day_line_in(line);
-    match read {
-        DayLine::Is(day, quarters, run) => show_dated(day, quarters, run, room),
-        DayLine::No => show_same(line, room),
+    match day_line_in(line) {
+        Some(told) => show_dated(told.day, told.quarters, told.run, room),
+        None => show_same(line, room),
     }
 }

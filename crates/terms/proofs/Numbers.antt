@@ -1,4 +1,5 @@
 -- Which numbers a reading can be refused with, as a list: what is worked out of every number in it holds of each refusal. A new fault's number is a row here.
+use Rattle.std.specs.Prelude.{Result, Ok, Err}
 use Prim.Native.Nat.{ℕ}
 use mathlib.Core.Path.{◌≡◌, refl, sym, ap, ◌∙◌}
 use mathlib.Core.Bool.{Bool, true, false, ◌&&◌, ◌||◌, false≢true}
@@ -10,8 +11,6 @@ use Rattle.terms.specs.Reply.{Reply, is, refused, need, next}
 use Rattle.terms.specs.Refusals.{number_of, why_of, passed}
 use Rattle.terms.specs.declared.refusal.Fault.{Fault}
 use Rattle.terms.specs.declared.refusal.Fault.TheVariants as F
-use Rattle.terms.specs.declared.refusal.Checked.{Checked}
-use Rattle.terms.specs.declared.refusal.Checked.TheVariants.{Fine, Faulty}
 use Rattle.terms.proofs.Replies.{never}
 
 -- a number is one of those listed; all those listed pass a test
@@ -96,7 +95,7 @@ fault-listed F.WorkingCrossed = refl
 fault-listed F.Ahead = refl
 fault-listed F.Age = refl
 
-pub by-passed : {A : Type 0} {l : List ℕ} {rest : Reply A} (place : Fault → ℕ) (checks : Checked) → all_of (is_of l) fault_numbers ≡ true → By l rest → By l (passed place checks rest)
+pub by-passed : {A : Type 0} {l : List ℕ} {rest : Reply A} (place : Fault → ℕ) (checks : Result Unit Fault) → all_of (is_of l) fault_numbers ≡ true → By l rest → By l (passed place checks rest)
 unfolding passed
-by-passed place Fine e h = h
-by-passed {l = l} place (Faulty fault) e h = number (number_of (why_of fault)) (place fault) (each (is_of l) fault_numbers (number_of (why_of fault)) e (fault-listed fault))
+by-passed place (Ok tt) e h = h
+by-passed {l = l} place (Err fault) e h = number (number_of (why_of fault)) (place fault) (each (is_of l) fault_numbers (number_of (why_of fault)) e (fault-listed fault))

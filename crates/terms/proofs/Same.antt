@@ -1,15 +1,14 @@
 -- Two refusals with one number and one place are one refusal: the number leads back to its reason. So two answers with one reply are one answer.
+use Rattle.std.specs.Prelude.{Result, Ok, Err}
 use Prim.Native.Nat.{ℕ}
 use mathlib.Core.Path.{◌≡◌, refl, sym, ap, ◌∙◌}
 use mathlib.Core.List.{List, [], ◌∷◌}
 use lib.ListN.{get_or}
 use Rattle.terms.specs.Reply.{Reply}
-use Rattle.terms.specs.Refusals.{number_of, refusal, answer}
+use Rattle.terms.specs.Refusals.{number_of, refusal, reply}
 use Rattle.terms.specs.declared.refusal.Why.{Why}
 use Rattle.terms.specs.declared.refusal.Why.TheVariants as W
 use Rattle.terms.specs.declared.refusal.Refusal.{Refusal}
-use Rattle.terms.specs.declared.refusal.Answer.{Answer}
-use Rattle.terms.specs.declared.refusal.Answer.TheVariants as A
 
 -- the reasons by their numbers; there is no number 0 and no 16
 abbrev whys : List Why
@@ -71,8 +70,8 @@ refusal-same r q e =
     let w : r.why ≡ q.why = why-same r.why q.why n in
     ap {B = Refusal} (λ (v : Why). record { why = v; place = r.place }) w ∙ ap {B = Refusal} (λ (k : ℕ). record { why = q.why; place = k }) p
 
-pub answer-same : (a b : Answer) → answer a ≡ answer b → a ≡ b
-answer-same (A.Is m) (A.Is n) e = ap A.Is (cc)
-answer-same (A.Is m) (A.Refused q) e = cc
-answer-same (A.Refused r) (A.Is n) e = cc
-answer-same (A.Refused r) (A.Refused q) e = ap A.Refused (refusal-same r q e)
+pub reply-same : {A : Type 0} (a b : Result A Refusal) → reply a ≡ reply b → a ≡ b
+reply-same (Ok m) (Ok n) e = ap Ok (cc)
+reply-same (Ok m) (Err q) e = cc
+reply-same (Err r) (Ok n) e = cc
+reply-same (Err r) (Err q) e = ap Err (refusal-same r q e)

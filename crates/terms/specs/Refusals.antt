@@ -1,15 +1,11 @@
 -- "Numbers given back": the paper's number of each reason, and of each fault of a unit.
-use Rattle.std.specs.Prelude.{ℕ, zero, suc, Bool, true, false}
+use Rattle.std.specs.Prelude.{ℕ, zero, suc, Bool, true, false, Result, Ok, Err}
 use Rattle.terms.specs.Reply.{Reply, is, refused}
 use Rattle.terms.specs.declared.refusal.Why.{Why}
 use Rattle.terms.specs.declared.refusal.Why.TheVariants as W
 use Rattle.terms.specs.declared.refusal.Refusal.{Refusal}
 use Rattle.terms.specs.declared.refusal.Fault.{Fault}
 use Rattle.terms.specs.declared.refusal.Fault.TheVariants as F
-use Rattle.terms.specs.declared.refusal.Answer.{Answer}
-use Rattle.terms.specs.declared.refusal.Answer.TheVariants as A
-use Rattle.terms.specs.declared.refusal.Checked.{Checked}
-use Rattle.terms.specs.declared.refusal.Checked.TheVariants.{Fine, Faulty}
 
 abbrev pub number_of : Why → ℕ
 number_of W.CutShort = 1
@@ -36,19 +32,10 @@ number_of W.Line = 20
 abbrev pub refusal : {A : Type 0} → Refusal → Reply A
 refusal r = refused (number_of r.why) r.place
 
--- an answer as a reply
-abbrev pub answer : Answer → Reply ℕ
-answer (A.Is n) = is n
-answer (A.Refused r) = refusal r
-
--- what an answer that is none hands out in place of a refusal; no caller asks for it
-abbrev pub no_refusal : Refusal
-no_refusal = record { why = W.Kind; place = 0 }
-
--- the refusal of an answer that is one
-abbrev pub refusal_of : Answer → Refusal
-refusal_of (A.Is n) = no_refusal
-refusal_of (A.Refused r) = r
+-- what a call answers, as a reply: the value, or the number of the reason and the place
+abbrev pub reply : {A : Type 0} → Result A Refusal → Reply A
+reply (Ok a) = is a
+reply (Err r) = refusal r
 
 -- why a fault of a unit is refused
 abbrev pub why_of : Fault → Why
@@ -71,17 +58,21 @@ why_of F.WorkingCrossed = W.WorkingCrossed
 why_of F.Ahead = W.MarginAhead
 why_of F.Age = W.MarginAge
 
+-- a fault's refusal at a place
+abbrev pub refused_at : ℕ → Fault → Refusal
+refused_at place fault = record { why = why_of fault; place = place }
+
 -- the fault, unless the test holds: the first test that fails ends the checks of a unit
-unfoldable pub check : Bool → Fault → Checked → Checked
+unfoldable pub check : Bool → Fault → Result Unit Fault → Result Unit Fault
 check true fault rest = rest
-check false fault rest = Faulty fault
+check false fault rest = Err fault
 
 -- what comes after a unit that passes; the refusal of one that does not, at the place of its fault
-unfoldable pub passed : {A : Type 0} → (Fault → ℕ) → Checked → Reply A → Reply A
-passed place Fine rest = rest
-passed place (Faulty fault) rest = refused (number_of (why_of fault)) (place fault)
+unfoldable pub passed : {A : Type 0} → (Fault → ℕ) → Result Unit Fault → Reply A → Reply A
+passed place (Ok tt) rest = rest
+passed place (Err fault) rest = refused (number_of (why_of fault)) (place fault)
 
 -- units given as columns, from the one of index i on: the first fault is refused at its unit's index, and else the index after the last is told, which from 0 on is their count
-unfoldable pub first_fault : (ℕ → Checked) → ℕ → ℕ → Reply ℕ
+unfoldable pub first_fault : (ℕ → Result Unit Fault) → ℕ → ℕ → Reply ℕ
 first_fault checks i zero = is i
 first_fault checks i (suc left) = passed (λ _. i) (checks i) (first_fault checks (suc i) left)

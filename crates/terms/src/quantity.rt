@@ -5,15 +5,15 @@ ghost use Rattle.numbers.specs.Range.{Within};
 ghost use Rattle.terms.specs.Quantities.{standing, known_class, size_in, implicit};
 
 // Whole kWh, negative for a sale, positive for a purchase.
-#[derive(Clone, Copy)]
+#[derive(Clone, Copy, PartialEq, Eq, PartialOrd, Ord, Debug)]
 pub struct Position(pub i32);
 
 // Whole kWh, positive for an injection, negative for a withdrawal.
-#[derive(Clone, Copy)]
+#[derive(Clone, Copy, PartialEq, Eq, PartialOrd, Ord, Debug)]
 pub struct Nomination(pub i32);
 
 // A unit's step-down and step-up margin, M- and M+, by which the steps work: whole kWh with a nomination's sign.
-#[derive(Clone, Copy)]
+#[derive(Clone, Copy, PartialEq, Eq, Debug)]
 pub struct Margins {
     pub step_down: i32,
     pub step_up: i32,
@@ -28,7 +28,7 @@ impl Position {
     // A position of a unit lies from -LIMIT to LIMIT, as its nomination.
     pub const LIMIT: i32 = Nomination::LIMIT;
 
-    // The one place where a position becomes a nomination: a sale of 500 matches a nomination of +500.
+    // The one place where a position becomes a nomination: a sale of 500 matches a nomination of +500. No `From`, which could not ask that the sign can turn.
     pub fn nominated(self) -> Nomination
         requires { Within 64000000 self.0 }
         ensures { result.0 ≡ neg_ℤ self.0 }
@@ -38,7 +38,7 @@ impl Position {
 }
 
 // How a unit stands to the Integrated Scheduling Process.
-#[derive(Clone, Copy)]
+#[derive(Clone, Copy, PartialEq, Eq, Debug)]
 pub enum Standing {
     NotEnabled,
     Enabled,
@@ -64,7 +64,7 @@ pub fn is_class(class: u8) -> bool
 }
 
 // What step 2 cuts.
-#[derive(Clone, Copy)]
+#[derive(Clone, Copy, PartialEq, Eq, Debug)]
 pub enum Direction {
     Injections,
     Withdrawals,
@@ -76,20 +76,9 @@ impl Direction {
         ensures { result ≡ size_in self n }
     {
         match self {
-            Direction::Injections => {
-                if 0 < n {
-                    numbers::signed::magnitude(n)
-                } else {
-                    0
-                }
-            }
-            Direction::Withdrawals => {
-                if n < 0 {
-                    numbers::signed::magnitude(n)
-                } else {
-                    0
-                }
-            }
+            Direction::Injections if 0 < n => n.unsigned_abs(),
+            Direction::Withdrawals if n < 0 => n.unsigned_abs(),
+            _ => 0,
         }
     }
 }

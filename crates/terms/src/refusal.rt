@@ -1,77 +1,47 @@
 // Refusals: why, and where.
 ghost use Rattle.std.specs.Prelude.{◌≡◌};
-ghost use Rattle.terms.specs.Refusals.{number_of, why_of, no_refusal, refusal_of};
+ghost use Rattle.terms.specs.Refusals.{number_of, why_of, refused_at};
 
-// The reasons for a refusal, in the order of their numbers.
-#[derive(Clone, Copy)]
+// The reasons for a refusal, each with its number.
+#[derive(Clone, Copy, PartialEq, Eq, Debug)]
 pub enum Why {
-    CutShort,
-    Kind,
-    Quarters,
-    Quarter,
-    UnitCount,
-    UnitNumber,
-    Flag,
-    Range,
-    Crossed,
-    PositionAge,
-    MarginAge,
-    Room,
-    BlockOrder,
-    EndCount,
-    Columns,
-    PositionAhead,
-    MarginAhead,
-    WorkingCrossed,
-    Line,
+    CutShort = 1,
+    Kind = 2,
+    Quarters = 3,
+    Quarter = 4,
+    UnitCount = 5,
+    UnitNumber = 6,
+    Flag = 7,
+    Range = 8,
+    Crossed = 9,
+    PositionAge = 10,
+    MarginAge = 11,
+    Room = 12,
+    BlockOrder = 13,
+    EndCount = 14,
+    Columns = 15,
+    PositionAhead = 17,
+    MarginAhead = 18,
+    WorkingCrossed = 19,
+    Line = 20,
 }
 
 impl Why {
     pub fn number(self) -> u8
         ensures { result ≡ number_of self }
     {
-        match self {
-            Why::CutShort => 1,
-            Why::Kind => 2,
-            Why::Quarters => 3,
-            Why::Quarter => 4,
-            Why::UnitCount => 5,
-            Why::UnitNumber => 6,
-            Why::Flag => 7,
-            Why::Range => 8,
-            Why::Crossed => 9,
-            Why::PositionAge => 10,
-            Why::MarginAge => 11,
-            Why::Room => 12,
-            Why::BlockOrder => 13,
-            Why::EndCount => 14,
-            Why::Columns => 15,
-            Why::PositionAhead => 17,
-            Why::MarginAhead => 18,
-            Why::WorkingCrossed => 19,
-            Why::Line => 20,
-        }
+        self as u8
     }
 }
 
-#[derive(Clone, Copy)]
+#[derive(Clone, Copy, PartialEq, Eq, Debug)]
 pub struct Refusal {
     pub why: Why,
     pub place: usize,
 }
 
-// What an answer that is none hands out in place of a refusal: `let .. else` does not bind what was refused.
-pub fn no_refusal() -> Refusal
-    ensures { result ≡ no_refusal }
-{
-    Refusal {
-        why: Why::Kind,
-        place: 0,
-    }
-}
-
 // What can be wrong with a unit, field by field.
-#[derive(Clone, Copy)]
+#[derive(Clone, Copy, PartialEq, Eq, Debug)]
 pub enum Fault {
     // A kind that no unit record has; only the block writer meets it.
     Kind,
@@ -95,26 +65,17 @@ pub enum Fault {
     Age,
 }
 
-impl Fault {
-    pub fn why(self) -> Why
-        ensures { result ≡ why_of self }
-    {
-        match self {
+impl From<Fault> for Why {
+    ghost from_gives = { λ fault why. why ≡ why_of fault };
+
+    fn from(fault: Fault) -> Why {
+        match fault {
             Fault::Kind => Why::Kind,
             Fault::Number => Why::UnitNumber,
-            Fault::Class => Why::Flag,
-            Fault::Coincide => Why::Flag,
-            Fault::Nominated => Why::Flag,
-            Fault::NotNominated => Why::Flag,
-            Fault::N => Why::Range,
-            Fault::Pc => Why::Range,
-            Fault::StepDown => Why::Range,
-            Fault::StepUp => Why::Range,
-            Fault::Lower => Why::Range,
-            Fault::Upper => Why::Range,
-            Fault::Crossed => Why::Crossed,
-            Fault::EndsCrossed => Why::Crossed,
-            Fault::NotFull => Why::Crossed,
+            Fault::Class | Fault::Coincide | Fault::Nominated | Fault::NotNominated => Why::Flag,
+            Fault::N | Fault::Pc | Fault::StepDown | Fault::StepUp | Fault::Lower | Fault::Upper =>
+                Why::Range,
+            Fault::Crossed | Fault::EndsCrossed | Fault::NotFull => Why::Crossed,
             Fault::WorkingCrossed => Why::WorkingCrossed,
             Fault::Ahead => Why::MarginAhead,
             Fault::Age => Why::MarginAge,
@@ -122,28 +83,14 @@ impl Fault {
     }
 }
 
-// Whether a unit passes its checks, or its first fault.
-#[derive(Clone, Copy)]
-pub enum Checked {
-    Fine,
-    Faulty(Fault),
-}
-
-// A number, such as a count or a length, or a refusal.
-#[derive(Clone, Copy)]
-pub enum Answer {
-    Is(usize),
-    Refused(Refusal),
-}
-
-impl Answer {
-    // The refusal of an answer that is one.
-    pub fn refusal(self) -> Refusal
-        ensures { result ≡ refusal_of self }
+impl Fault {
+    // The refusal of a unit that has it, at a place of the caller's counting: a byte or a unit's index.
+    pub fn at(self, place: usize) -> Refusal
+        ensures { result ≡ refused_at place self }
     {
-        match self {
-            Answer::Is(_) => no_refusal(),
-            Answer::Refused(r) => r,
+        Refusal {
+            why: Why::from(self),
+            place,
         }
     }
 }

@@ -1,19 +1,19 @@
 -- Digits read one by one: the size of all is the size of what is left after those read, and a number only grows.
 use Prim.Native.Nat.{ℕ, ◌+◌, ◌*◌, ◌-◌, ◌≤◌, ◌<◌}
-use mathlib.Core.Path.{◌≡◌, refl}
+use mathlib.Core.Path.{◌≡◌}
 use mathlib.Core.Bool.{true, false, and-false}
-use mathlib.Core.List.{List, [], ◌∷◌}
+use mathlib.Core.List.{List}
 use native.Mathlib.Numerals.{add-one}
 use native.Mathlib.Omega.{arith}
 use borrow.Author.Tests.{le-leb, lt-leb}
-use lib.ListN.{length, get_or, drop}
-use lib.Seq.{drop-cons, drop-length}
+use lib.ListN.{length, get_or, drop, drop_of_length-le}
+use lib.Seq.{drop-cons}
+use Rattle.std.specs.Prelude.{Some, None}
 use Rattle.numbers.specs.Decimal.{is_digit, all_digits, number_from}
 use Rattle.numbers.proofs.ReadBack.{grows}
-use Rattle.text.specs.declared.numbers_in.Size.TheVariants.{Is, No}
-use Rattle.text.specs.Numbers.{size_from, minus}
+use Rattle.text.specs.Numbers.{size_from}
 
-pub too_large : (n : ℕ) (s : List ℕ) → 4294967295 < n → size_from n s ≡ No
+pub too_large : (n : ℕ) (s : List ℕ) → 4294967295 < n → size_from n s ≡ None
 unfolding size_from
 too_large n s h =
     let e = lt-leb (number_from n s) 4294967295 (omega (arith, grows n s)) in
@@ -24,21 +24,12 @@ module _ (n : ℕ) (s : List ℕ) (i : ℕ) where
   unfolding size_from all_digits number_from
   turn h e = rw (add-one, drop-cons s i 0, e)
 
-  pub stop : i < length s → is_digit (get_or s i 0) ≡ false → size_from n (drop i s) ≡ No
+  pub stop : i < length s → is_digit (get_or s i 0) ≡ false → size_from n (drop i s) ≡ None
   unfolding size_from all_digits number_from
   stop h e = rw (drop-cons s i 0, e)
 
-pub end : (n : ℕ) → n ≤ 4294967295 → size_from n [] ≡ Is n
-unfolding size_from all_digits number_from
-end n h = rw (le-leb n 4294967295 h)
+  pub end : length s ≤ i → n ≤ 4294967295 → size_from n (drop i s) ≡ Some n
+  unfolding size_from all_digits number_from
+  end g h = rw (drop_of_length-le s g, le-leb n 4294967295 h)
 
-pub minus-long : (s : List ℕ) → minus s ≡ true → 0 < length s
-minus-long [] e = let z : ◌≡◌ {A = ℕ} 0 1 = cc in omega arith
-minus-long (b ∷ s) e = omega arith
-
-pub no_minus : (s : List ℕ) → length s ≡ 0 → minus s ≡ false
-no_minus [] e = refl
-no_minus (b ∷ s) e = let z : ◌≡◌ {A = ℕ} 0 1 = omega arith in cc
-
-pub drop_all : (s : List ℕ) (i : ℕ) → i ≡ length s → drop i s ≡ []
-drop_all s i e = rw (e, drop-length)
+pub ruleset sizes = (too_large, turn, stop, end)

@@ -1,3 +1,4 @@
+-- Laws of the text form.
 pub mod Digits
 pub mod Spaces
 pub mod Same

@@ -1,13 +1,8 @@
 -- The fields of a line, one after another: where each stands, whether it is in the form, and its value by width. What comes after a field that is not in the form is not read.
-use Rattle.std.specs.Prelude.{ℕ, ◌+◌, true, false, not, ◌&&◌, List, leb, eqb, pos, neg_ℤ, length, drop}
+use Rattle.std.specs.Prelude.{ℕ, suc, ◌+◌, List, leb, eqb, ℤ, pos, negsuc, Option, Some, None, option_and_then, Result, Ok, Err, ⊤, length, drop}
 use Rattle.numbers.specs.Choice.{pick}
-use Rattle.text.specs.declared.numbers_in.Whole.{Whole}
 use Rattle.text.specs.declared.fields.Field.{Field}
-use Rattle.text.specs.declared.fields.Unsigned.{Unsigned}
-use Rattle.text.specs.declared.fields.Byte.{Byte}
-use Rattle.text.specs.declared.fields.Short.{Short}
-use Rattle.text.specs.declared.fields.Long.{Long}
-use Rattle.text.specs.declared.fields.Kwh.{Kwh}
+use Rattle.text.specs.declared.fields.Read.{Read}
 use Rattle.text.specs.declared.values_in.Form.{Form}
 use Rattle.text.specs.declared.values_in.Form.TheVariants.{Number, Day, Minute}
 use Rattle.text.specs.Numbers.{blanks, field_of}
@@ -24,79 +19,56 @@ end_from text start = start + length (field_of (drop start text))
 -- the field after a place, by its index in the record
 unfoldable pub field_at : List ℕ → ℕ → ℕ → Field
 field_at text index at =
-    record { index = index; start = start_after text at; end = end_from text (start_after text at); good = true }
+    record { index = index; start = start_after text at; end = end_from text (start_after text at) }
 
--- a field that is not in the form
-abbrev pub wrong : Field → Field
-wrong f = record { index = f.index; start = f.start; end = f.end; good = false }
-
--- after the last field stands nothing
-unfoldable pub over_at : List ℕ → ℕ → Field → Field
-over_at text index last =
-    pick last.good
-    (pick (eqb (field_at text index last.end).start (length text)) last
-    (wrong (field_at text index last.end)))
-    last
+-- after the place where the last field ends stands nothing, or a field that is one too many
+unfoldable pub over_at : List ℕ → ℕ → ℕ → Result ⊤ Field
+over_at text index at =
+    pick (eqb (field_at text index at).start (length text)) (Ok tt) (Err (field_at text index at))
 
 -- ---- values
-abbrev pub no_unsigned : Field → Unsigned
-no_unsigned f = record { value = 0; field = wrong f }
-
 -- a number from 0 to the most
-abbrev pub unsigned_of : ℕ → Whole → Field → Unsigned
-unsigned_of most n f =
-    pick (n.good && (not n.negative && leb n.size most)) (record { value = n.size; field = f }) (no_unsigned f)
+abbrev pub unsigned_of : ℕ → ℤ → Option ℕ
+unsigned_of most (pos n) = pick (leb n most) (Some n) None
+unsigned_of most (negsuc n) = None
 
--- the value of the field after the one before
-unfoldable pub unsigned_at : Form → ℕ → List ℕ → ℕ → Field → Unsigned
-unsigned_at form most text index before =
-    pick before.good
-    (unsigned_of most (whole_at form text (field_at text index before.end).start) (field_at text index before.end))
-    (record { value = 0; field = before })
+-- a signed number of 32 bits, of which negsuc n is the one that is suc n below 0
+abbrev pub signed_of : ℤ → Option ℤ
+signed_of (pos n) = pick (leb n 2147483647) (Some (pos n)) None
+signed_of (negsuc n) = pick (leb (suc n) 2147483648) (Some (negsuc n)) None
 
-abbrev pub short_at : Form → List ℕ → ℕ → Field → Short
-short_at form text index before =
-    record { value = (unsigned_at form 65535 text index before).value; field = (unsigned_at form 65535 text index before).field }
+-- what a field is read as: its value and its end, or itself where it is not in the form
+abbrev pub read_as : {T : Type 0} → Option T → Field → Result (Read T) Field
+read_as (Some x) f = Ok (record { value = x; end = f.end })
+read_as None f = Err f
 
-abbrev pub long_at : Form → List ℕ → ℕ → Field → Long
-long_at form text index before =
-    record
-    { value = (unsigned_at form 4294967295 text index before).value; field = (unsigned_at form 4294967295 text index before).field }
+-- the field after a place
+unfoldable pub value_after : {T : Type 0} → (ℤ → Option T) → Form → List ℕ → ℕ → ℕ → Result (Read T) Field
+value_after taken form text index at =
+    read_as (option_and_then taken (whole_at form text (field_at text index at).start)) (field_at text index at)
 
 -- a number of 8, 16 or 32 bits
-unfoldable pub u8_at : List ℕ → ℕ → Field → Byte
-u8_at text index before =
-    record { value = (unsigned_at Number 255 text index before).value; field = (unsigned_at Number 255 text index before).field }
+abbrev pub u8_at : List ℕ → ℕ → ℕ → Result (Read ℕ) Field
+u8_at text index at = value_after (unsigned_of 255) Number text index at
 
-unfoldable pub u16_at : List ℕ → ℕ → Field → Short
-u16_at text index before = short_at Number text index before
+abbrev pub u16_at : List ℕ → ℕ → ℕ → Result (Read ℕ) Field
+u16_at text index at = value_after (unsigned_of 65535) Number text index at
 
-unfoldable pub u32_at : List ℕ → ℕ → Field → Long
-u32_at text index before = long_at Number text index before
+abbrev pub u32_at : List ℕ → ℕ → ℕ → Result (Read ℕ) Field
+u32_at text index at = value_after (unsigned_of 4294967295) Number text index at
 
 -- a day and a minute, as dates or as numbers
-unfoldable pub day_field_at : List ℕ → ℕ → Field → Short
-day_field_at text index before = short_at Day text index before
+abbrev pub day_field_at : List ℕ → ℕ → ℕ → Result (Read ℕ) Field
+day_field_at text index at = value_after (unsigned_of 65535) Day text index at
 
-unfoldable pub minute_at : List ℕ → ℕ → Field → Long
-minute_at text index before = long_at Minute text index before
+abbrev pub minute_at : List ℕ → ℕ → ℕ → Result (Read ℕ) Field
+minute_at text index at = value_after (unsigned_of 4294967295) Minute text index at
 
 -- a signed number of 32 bits
-abbrev pub no_kwh : Field → Kwh
-no_kwh f = record { value = pos 0; field = f }
+abbrev pub i32_at : List ℕ → ℕ → ℕ → Result (Read ℤ) Field
+i32_at text index at = value_after signed_of Number text index at
 
-abbrev pub negative_of : ℕ → Field → Kwh
-negative_of size f = pick (leb size 2147483648) (record { value = neg_ℤ (pos size); field = f }) (no_kwh (wrong f))
-
-abbrev pub positive_of : ℕ → Field → Kwh
-positive_of size f = pick (leb size 2147483647) (record { value = pos size; field = f }) (no_kwh (wrong f))
-
-unfoldable pub signed_of : Whole → Field → Kwh
-signed_of n f =
-    pick n.good (pick n.negative (negative_of n.size f) (positive_of n.size f)) (no_kwh (wrong f))
-
-unfoldable pub i32_at : List ℕ → ℕ → Field → Kwh
-i32_at text index before =
-    pick before.good
-    (signed_of (whole_at Number text (field_at text index before.end).start) (field_at text index before.end))
-    (no_kwh before)
+-- what is read after a field that is in the form; one that is not is the answer
+abbrev pub next : {A B : Type 0} → Result A Field → (A → Result B Field) → Result B Field
+next (Ok x) f = f x
+next (Err field) f = Err field

@@ -1,15 +1,17 @@
 -- A line of the text: a word, and then the fields of its record, one after another.
-use Rattle.std.specs.Prelude.{ℕ, ◌-◌, Bool, true, false, ◌&&◌, List, [], ◌∷◌, eqb, ltb, length, get_or, take, drop}
+use Rattle.std.specs.Prelude.{ℕ, ◌-◌, Bool, true, false, ◌&&◌, List, [], ◌∷◌, eqb, ltb, length, get_or, take, drop, Option, Some, None, Result, Ok, Err, is_ok}
+use Rattle.std.specs.Result.{result_ok}
 use Rattle.numbers.specs.Choice.{pick}
 use Rattle.records.specs.declared.unit.UnitRecord.{UnitRecord}
-use Rattle.records.specs.Layouts.{day_kind, day_with, group_with, unit_with, with_ends, group_kind, unit_kind, interval_kind, end_kind}
+use Rattle.records.specs.Layouts.{day_with, group_with, unit_with, with_ends, interval_kind}
 use Rattle.text.specs.declared.line.Line.{Line}
 use Rattle.text.specs.declared.line.Line.TheVariants.{Day, Group, Unit, End, Passed, TooLong, Not}
-use Rattle.text.specs.declared.line.DayLine.{DayLine}
-use Rattle.text.specs.declared.line.DayLine.TheVariants.{Is, No}
+use Rattle.text.specs.declared.line.Kind.{Kind}
+use Rattle.text.specs.declared.line.Kind.TheVariants as K
+use Rattle.text.specs.declared.line.Listed.{Listed}
 use Rattle.text.specs.declared.fields.Field.{Field}
 use Rattle.text.specs.Numbers.{is_blank, field_of}
-use Rattle.text.specs.Fields.{field_at, wrong, over_at, u8_at, u16_at, u32_at, i32_at, day_field_at, minute_at}
+use Rattle.text.specs.Fields.{field_at, over_at, next, u8_at, u16_at, u32_at, i32_at, day_field_at, minute_at}
 
 -- ---- words
 unfoldable pub same : List ℕ → List ℕ → Bool
@@ -33,50 +35,54 @@ end_word = 69 ∷ 78 ∷ 68 ∷ []
 
 -- ---- records: each field starts where the one before ends, and after the last stands nothing
 -- the record of a kind, unless a field is wrong
-abbrev pub ended : ℕ → Field → Line → Line
-ended kind last line = pick last.good line (Not kind last)
+abbrev pub ended : Kind → Result Line Field → Line
+ended kind (Ok line) = line
+ended kind (Err field) = Not (Some kind) field
 
-unfoldable pub day_line_of : List ℕ → Field → Line
+unfoldable pub day_line_of : List ℕ → ℕ → Result Line Field
 day_line_of text word =
-    let day = day_field_at text 1 word in
-    let quarters = u8_at text 2 day.field in
-    let run = minute_at text 3 quarters.field in
-    let position-limit = u16_at text 4 run.field in
-    let margin-limit = u16_at text 5 position-limit.field in
-    ended day_kind (over_at text 6 margin-limit.field)
-    (Day (day_with day.value quarters.value run.value position-limit.value margin-limit.value))
+    next (day_field_at text 1 word) (λ day.
+    next (u8_at text 2 day.end) (λ quarters.
+    next (minute_at text 3 quarters.end) (λ run.
+    next (u16_at text 4 run.end) (λ position-limit.
+    next (u16_at text 5 position-limit.end) (λ margin-limit.
+    next (over_at text 6 margin-limit.end) (λ _.
+    Ok (Day (day_with day.value quarters.value run.value position-limit.value margin-limit.value))))))))
 
-unfoldable pub group_line_of : List ℕ → Field → Line
+unfoldable pub group_line_of : List ℕ → ℕ → Result Line Field
 group_line_of text word =
-    let brp = u16_at text 1 word in
-    let zone = u8_at text 2 brp.field in
-    let quarter = u8_at text 3 zone.field in
-    let count = u8_at text 4 quarter.field in
-    let made = minute_at text 5 count.field in
-    ended group_kind (over_at text 6 made.field)
-    (Group (group_with brp.value zone.value quarter.value count.value made.value))
+    next (u16_at text 1 word) (λ brp.
+    next (u8_at text 2 brp.end) (λ zone.
+    next (u8_at text 3 zone.end) (λ quarter.
+    next (u8_at text 4 quarter.end) (λ count.
+    next (minute_at text 5 count.end) (λ made.
+    next (over_at text 6 made.end) (λ _.
+    Ok (Group (group_with brp.value zone.value quarter.value count.value made.value))))))))
+
+-- an 04h, of a unit whose nine values end at a place and after which two ends follow
+unfoldable pub interval_of : List ℕ → ℕ → UnitRecord → Result Line Field
+interval_of text made u =
+    next (i32_at text 10 made) (λ lower.
+    next (i32_at text 11 lower.end) (λ upper.
+    next (over_at text 12 upper.end) (λ _.
+    Ok (Unit (with_ends u interval_kind lower.value upper.value)))))
 
 -- the nine values of a unit are a 03h where nothing stands after them; else two ends follow, and they are an 04h
-unfoldable pub ends_of : List ℕ → Field → UnitRecord → Line
-ends_of text made u =
-    let lower = i32_at text 10 made in
-    let upper = i32_at text 11 lower.field in
-    pick (over_at text 10 made).good (Unit u)
-    (ended unit_kind (over_at text 12 upper.field)
-    (Unit (with_ends u interval_kind lower.value upper.value)))
+unfoldable pub ends_of : List ℕ → ℕ → UnitRecord → Result Line Field
+ends_of text made u = pick (is_ok (over_at text 10 made)) (Ok (Unit u)) (interval_of text made u)
 
-unfoldable pub unit_line_of : List ℕ → Field → Line
+unfoldable pub unit_line_of : List ℕ → ℕ → Result Line Field
 unit_line_of text word =
-    let number = u16_at text 1 word in
-    let class = u8_at text 2 number.field in
-    let coincide = u8_at text 3 class.field in
-    let nominated = u8_at text 4 coincide.field in
-    let n = i32_at text 5 nominated.field in
-    let pc = i32_at text 6 n.field in
-    let step_down = i32_at text 7 pc.field in
-    let step-up = i32_at text 8 step_down.field in
-    let made = minute_at text 9 step-up.field in
-    ends_of text made.field
+    next (u16_at text 1 word) (λ number.
+    next (u8_at text 2 number.end) (λ class.
+    next (u8_at text 3 class.end) (λ coincide.
+    next (u8_at text 4 coincide.end) (λ nominated.
+    next (i32_at text 5 nominated.end) (λ n.
+    next (i32_at text 6 n.end) (λ pc.
+    next (i32_at text 7 pc.end) (λ step_down.
+    next (i32_at text 8 step_down.end) (λ step-up.
+    next (minute_at text 9 step-up.end) (λ made.
+    ends_of text made.end
     (unit_with
     number.value
     class.value
@@ -86,22 +92,22 @@ unit_line_of text word =
     pc.value
     step_down.value
     step-up.value
-    made.value)
+    made.value))))))))))
 
-unfoldable pub end_line_of : List ℕ → Field → Line
+unfoldable pub end_line_of : List ℕ → ℕ → Result Line Field
 end_line_of text word =
-    let groups = u32_at text 1 word in
-    ended end_kind (over_at text 2 groups.field)
-    (End (record { groups = groups.value }))
+    next (u32_at text 1 word) (λ groups.
+    next (over_at text 2 groups.end) (λ _.
+    Ok (End (record { groups = groups.value }))))
 
--- the record that a word begins; no record is of kind 0
+-- the record that a word begins
 unfoldable pub fields_of : List ℕ → List ℕ → Field → Line
 fields_of name text word =
-    pick (same name unit_word) (unit_line_of text word)
-    (pick (same name group_word) (group_line_of text word)
-    (pick (same name day_word) (day_line_of text word)
-    (pick (same name end_word) (end_line_of text word)
-    (Not 0 (wrong word)))))
+    pick (same name unit_word) (ended K.Unit (unit_line_of text word.end))
+    (pick (same name group_word) (ended K.Group (group_line_of text word.end))
+    (pick (same name day_word) (ended K.Day (day_line_of text word.end))
+    (pick (same name end_word) (ended K.End (end_line_of text word.end))
+    (Not None word))))
 
 -- ---- lines
 -- a word, index 0, and the fields after it; blanks alone are passed over
@@ -135,12 +141,15 @@ unfoldable pub line_of : List ℕ → ℕ → Line
 line_of line number = bare_of (uncommented true (drop (mark_length line number) line))
 
 -- ---- the DAY line of the day list: its day, quarters and run minute, each as the text has it, and nothing after them
-unfoldable pub listed_fields : List ℕ → Field → DayLine
+unfoldable pub listed_fields : List ℕ → ℕ → Result Listed Field
 listed_fields text word =
-    let day = day_field_at text 1 word in
-    let quarters = u8_at text 2 day.field in
-    let run = minute_at text 3 quarters.field in
-    pick (over_at text 4 run.field).good (Is day.value quarters.value run.value) No
+    next (day_field_at text 1 word) (λ day.
+    next (u8_at text 2 day.end) (λ quarters.
+    next (minute_at text 3 quarters.end) (λ run.
+    next (over_at text 4 run.end) (λ _.
+    Ok (record { day = day.value; quarters = quarters.value; run = run.value })))))
 
-unfoldable pub listed_of : List ℕ → DayLine
-listed_of text = pick (same (field_of (drop (field_at text 0 0).start text)) day_word) (listed_fields text (field_at text 0 0)) No
+unfoldable pub listed_of : List ℕ → Option Listed
+listed_of text =
+    pick (same (field_of (drop (field_at text 0 0).start text)) day_word)
+    (result_ok (listed_fields text (field_at text 0 0).end)) None

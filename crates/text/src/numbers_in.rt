@@ -1,122 +1,63 @@
 // Whole numbers in the text of a line.
-ghost use Rattle.std.specs.Prelude.{◌≡◌, true, ◌+◌, ◌-◌, length, drop};
-ghost use Rattle.text.specs.Numbers.{size_of, is_blank, blanks, field_of, minus, no_whole, number_in};
+ghost use Rattle.std.specs.Prelude.{◌≡◌, ◌+◌, length, drop};
+ghost use Rattle.text.specs.Numbers.{size_of, is_blank, blanks, field_of, number_in};
 
-use numbers::decimal::{digit_value, is_digit};
+use numbers::decimal::digit_of;
 
-const TAB: u8 = 9;
-
-// No field is larger.
-const LARGEST: u64 = 4294967295;
-
-// What digits come to.
-#[derive(Clone, Copy)]
-pub enum Size {
-    Is(u64),
-    No,
-}
-
-// A number by sign and size, and whether it is one.
-#[derive(Clone, Copy)]
-pub struct Whole {
-    pub negative: bool,
-    pub size: u64,
-    pub good: bool,
-}
-
-pub fn none() -> Whole
-    ensures { result ≡ no_whole }
-{
-    Whole {
-        negative: false,
-        size: 0,
-        good: false,
-    }
-}
-
-// The number that one digit or more make, unless it is above the largest.
-pub fn size_of(digits: &[u8]) -> Size
+// The number that one digit or more make, unless it is above the largest of 32 bits: no field is larger. Not by `parse`, which takes a `+`.
+#[tactic(auto, using(crate::proofs::Digits::sizes), unfolding(crate::specs::Numbers::size_of))]
+pub fn size_of(digits: &[u8]) -> Option<u32>
     ensures { result ≡ size_of digits.now }
 {
-    if digits.len() == 0 {
-        return Size::No;
+    if digits.is_empty() {
+        return None;
     }
-    let mut size = 0;
-    let mut i = 0;
-    while i < digits.len() {
-        let byte = digits[i];
-        if !is_digit(byte) {
-            return Size::No;
-        }
-        size = size * 10 + digit_value(byte);
-        if LARGEST < size {
-            return Size::No;
-        }
-        i += 1;
+    let mut size: u32 = 0;
+    for byte in digits {
+        size = size.checked_mul(10)?.checked_add(digit_of(*byte)?)?;
     }
-    Size::Is(size)
+    Some(size)
 }
 
 pub fn is_blank(byte: u8) -> bool
     ensures { result ≡ is_blank byte }
 {
-    if byte == b' ' {
-        return true;
-    }
-    byte == TAB
+    byte == b' ' || byte == b'\t'
 }
 
-// The place behind the blanks at a place.
+// The place behind the blanks at a place. Tried: `take_while` and `count`; the proof against `length` does not close, here and below.
+#[tactic(auto, using(crate::proofs::Spaces::spaces))]
 pub fn after_blanks(text: &[u8], from: usize) -> usize
     ensures { result ≡ from + blanks (drop from text.now) }
 {
-    let mut start = from;
-    while start < text.len() && is_blank(text[start]) {
-        start += 1;
+    for at in from..text.len() {
+        if !is_blank(text[at]) {
+            return at;
+        }
     }
-    start
+    from.max(text.len())
 }
 
 // The place of the next blank, or the end of the text.
+#[tactic(auto, using(crate::proofs::Spaces::words))]
 pub fn field_end(text: &[u8], from: usize) -> usize
     ensures { result ≡ from + length (field_of (drop from text.now)) }
 {
-    let mut end = from;
-    while end < text.len() && !is_blank(text[end]) {
-        end += 1;
+    for at in from..text.len() {
+        if is_blank(text[at]) {
+            return at;
+        }
     }
-    end
-}
-
-fn is_negative(field: &[u8]) -> bool
-    ensures { result ≡ minus field.now }
-{
-    if field.len() == 0 {
-        return false;
-    }
-    field[0] == b'-'
+    from.max(text.len())
 }
 
 // A whole field as a number.
-pub fn number_in(field: &[u8]) -> Whole
+#[tactic(auto, unfolding(crate::specs::Numbers::number_in))]
+pub fn number_in(field: &[u8]) -> Option<i64>
     ensures { result ≡ number_in field.now }
 {
-    if is_negative(field) {
-        let Size::Is(size) = size_of(&field[1..]) else {
-            return none();
-        };
-        return Whole {
-            negative: 0 < size,
-            size,
-            good: true,
-        };
-    }
-    let Size::Is(size) = size_of(field) else {
-        return none();
-    };
-    Whole {
-        negative: false,
-        size,
-        good: true,
+    match field {
+        [b'-', digits @ ..] => size_of(digits).map(|size| -i64::from(size)),
+        _ => size_of(field).map(|size| i64::from(size)),
     }
 }

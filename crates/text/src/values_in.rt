@@ -3,17 +3,17 @@ ghost use Rattle.std.specs.Prelude.{◌≡◌};
 ghost use Rattle.text.specs.Dates.{value_in, whole_at};
 
 use crate::dates_in::{day_in, minute_in};
-use crate::numbers_in::{Whole, field_end, none, number_in};
+use crate::numbers_in::{field_end, number_in};
 
-// A number, or a day or a minute, which may be written as dates.
-#[derive(Clone, Copy)]
+// A number, or a day or a minute, which may be written as dates; an enum and no function that reads, since the definitions speak of forms.
+#[derive(Clone, Copy, PartialEq, Eq, Debug)]
 pub enum Form {
     Number,
     Day,
     Minute,
 }
 
-fn value_in(field: &[u8], form: Form) -> Whole
+fn value_in(field: &[u8], form: Form) -> Option<i64>
     ensures { result ≡ value_in form field.now }
 {
     match form {
@@ -24,11 +24,12 @@ fn value_in(field: &[u8], form: Form) -> Whole
 }
 
 // The value of the field that starts at a place.
-pub fn value_at(text: &[u8], start: usize, form: Form) -> Whole
+#[tactic(auto, using(crate::proofs::Values::values), unfolding(crate::specs::Dates::whole_at))]
+pub fn value_at(text: &[u8], start: usize, form: Form) -> Option<i64>
     ensures { result ≡ whole_at form text.now start }
 {
     if text.len() <= start {
-        return none();
+        return None;
     }
     let end = field_end(text, start);
     value_in(&text[start..end], form)

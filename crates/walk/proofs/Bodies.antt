@@ -26,11 +26,6 @@ pub body_at : (bodies : List (List ℕ)) → bodies ≡ rows → (state : State)
     → get_or (get_or bodies row []) kind 0 ≡ body_of state kind
 body_at bodies table state row kind r h = rw (table, r, row_at state) (column-at (body_of state) 16 kind 0 h)
 
-pub row_below : (state : State) → row_of state < 3
-row_below Fresh = omega arith
-row_below Open = omega arith
-row_below Closed = omega arith
-
 -- no record of a kind past the table's columns may come
 pub body-past : (state : State) (kind : ℕ) → 16 ≤ kind → 0 ≡ body_of state kind
 body-past state kind h = go (dec_lt 0 (body_of state kind))

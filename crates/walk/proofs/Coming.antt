@@ -1,12 +1,13 @@
 -- What a head that was read in a state says of the record, since each test of the head passed; and that it is the head of the one kind that came, as a record that is read by its own head comes.
-use Prim.Native.Nat.{ℕ, ◌+◌, ◌-◌, ◌≤◌, ◌<◌}
+use Prim.Native.Nat.{ℕ, ◌+◌, ◌≤◌, ◌<◌}
 use mathlib.Core.Path.{◌≡◌, refl, sym, ap, ◌∙◌}
 use mathlib.Core.Bool.{Bool, true, false}
 use mathlib.Core.List.{List}
 use native.Mathlib.Omega.{arith}
-use borrow.Author.Tests.{ltb-true, leb-true, eqb-true, lt-ltb, le-leb, eq-eqb, ne_eqb}
+use borrow.Author.Tests.{ltb-true, leb-true, eqb-true, lt-ltb, le-leb, eq-eqb}
 use lib.Dec.{eqb, ltb}
 use lib.ListN.{length}
+use Rattle.std.specs.Prelude.{None}
 use Rattle.numbers.specs.Bytes.{byte_at}
 use Rattle.numbers.specs.Choice.{pick}
 use Rattle.terms.specs.Reply.{Reply, is, need, next}
@@ -19,18 +20,18 @@ use Rattle.walk.specs.declared.table.State.TheVariants.{Fresh, Open, Closed}
 use Rattle.walk.specs.declared.table.Role.{Role}
 use Rattle.walk.specs.declared.table.Role.TheVariants.{Opens, Block, Closes}
 use Rattle.walk.specs.declared.table.Head.{Head}
-use Rattle.walk.specs.Table.{comes, none, body, Coming, the_day, a_group, the_end, length_as, Row, role_or, role_of, body_of, is_block, may_come, head_in, block_head_in}
+use Rattle.walk.specs.Table.{comes, body, Coming, the_day, a_group, the_end, length_as, Row, role_of, body_of, is_block, may_come, head_in, block_head_in}
 
 -- the table, row by row: what holds of each of its records holds of whatever may come
 by_row : (P : State → ℕ → Type 0) → P Fresh day_kind → P Open group_kind → P Open end_kind → (state : State) (kind : ℕ) → may_come state kind ≡ true → P state kind
 by_row P day group end Fresh kind e = go (eqb kind day_kind) refl e
   where
-    go : (d : Bool) → eqb kind day_kind ≡ d → ltb 0 (body (pick d (comes Opens (day_length - 1)) none)) ≡ true → P Fresh kind
+    go : (d : Bool) → eqb kind day_kind ≡ d → ltb 0 (body (pick d (comes Opens day_length) None)) ≡ true → P Fresh kind
     go true k e = rw (eqb-true kind day_kind k) day
     go false k e = absurd (omega (arith, ltb-true 0 0 e))
 by_row P day group end Open kind e = go (eqb kind group_kind) (eqb kind end_kind) refl refl e
   where
-    go : (g n : Bool) → eqb kind group_kind ≡ g → eqb kind end_kind ≡ n → ltb 0 (body (pick g (comes Block (group_length - 1)) (pick n (comes Closes (end_length - 1)) none))) ≡ true → P Open kind
+    go : (g n : Bool) → eqb kind group_kind ≡ g → eqb kind end_kind ≡ n → ltb 0 (body (pick g (comes Block group_length) (pick n (comes Closes end_length) None))) ≡ true → P Open kind
     go true n k j e = rw (eqb-true kind group_kind k) group
     go false true k j e = rw (eqb-true kind end_kind j) end
     go false false k j e = absurd (omega (arith, ltb-true 0 0 e))
@@ -43,14 +44,6 @@ row-comes =
 -- the table has a column for each
 pub kind-below : (state : State) (kind : ℕ) → may_come state kind ≡ true → kind < 16
 kind-below = by_row (λ _ (kind : ℕ). kind < 16) (omega arith) (omega arith) (omega arith)
-
--- a record that neither opens a day nor is a block
-pub role-else : (kind : ℕ) → (kind ≡ day_kind → ⊥) → (kind ≡ group_kind → ⊥) → Closes ≡ role_of kind
-role-else kind d g = simp (ne_eqb kind day_kind d, ne_eqb kind group_kind g) (go (eqb kind end_kind))
-  where
-    go : (n : Bool) → Closes ≡ role_or Closes (pick n (comes Closes (end_length - 1)) none)
-    go true = refl
-    go false = refl
 
 -- what is a block is no other record, and comes to an open day alone
 pub is_block-only : (role : Role) → is_block role ≡ true → role ≡ Block

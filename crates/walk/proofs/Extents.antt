@@ -7,6 +7,7 @@ use native.Mathlib.Omega.{arith}
 use native.Mathlib.Decide.{dec_lt}
 use lib.ListN.{length}
 use Rattle.numbers.specs.Choice.{pick}
+use Rattle.std.specs.Prelude.{Some}
 use Rattle.terms.specs.Reply.{is}
 use Rattle.terms.proofs.Replies.{never, next-is}
 use Rattle.walk.specs.declared.table.State.{State}
@@ -14,7 +15,7 @@ use Rattle.walk.specs.declared.table.Head.{Head}
 use Rattle.walk.specs.declared.step.Extent.{Extent}
 use Rattle.walk.specs.Table.{is_block, state_after, is_closed, head_in}
 use Rattle.walk.specs.Extents.{Lies}
-use Rattle.walk.specs.Walk.{extent, block_end_of, whole_of, record_of, step_of}
+use Rattle.walk.specs.Walk.{block_end_of, whole_of, record_of, step_of}
 use Rattle.walk.proofs.Coming.{came, group-whole}
 use Rattle.walk.proofs.UnitHeads.{block_run}
 use Rattle.walk.proofs.Places.{step-within, step-done, step-short}
@@ -41,7 +42,7 @@ pub record Taken (s : List ℕ) (state : State) (place : ℕ) (e : Extent) : Typ
   pub end : whole_of s place head ≡ is e.end
   pub after : e.after ≡ state_after head.role
 
-module _ (s : List ℕ) (state : State) (place : ℕ) (e : Extent) (q : step_of s state place ≡ is (extent e)) where
+module _ (s : List ℕ) (state : State) (place : ℕ) (e : Extent) (q : step_of s state place ≡ is (Some e)) where
   pub taken : Taken s state place e
   unfolding record_of
   taken = go (dec_lt place (length s))

@@ -3,6 +3,7 @@ use Prim.Native.Nat.{ℕ}
 use mathlib.Core.Path.{◌≡◌, refl, subst}
 use mathlib.Core.List.{List}
 use native.Mathlib.Omega.{arith}
+use Rattle.std.specs.Prelude.{Some}
 use Rattle.terms.specs.Reply.{is, next}
 use Rattle.walk.specs.declared.table.State.{State}
 use Rattle.walk.specs.declared.table.State.TheVariants.{Fresh, Open, Closed}
@@ -10,7 +11,7 @@ use Rattle.walk.specs.declared.table.Role.TheVariants.{Opens, Block, Closes}
 use Rattle.walk.specs.declared.table.Head.{Head}
 use Rattle.walk.specs.declared.step.Extent.{Extent}
 use Rattle.walk.specs.Table.{state_after, head_in, Coming, the_day, a_group, the_end}
-use Rattle.walk.specs.Walk.{extent, block_end_of, whole_of, record_of, step_of}
+use Rattle.walk.specs.Walk.{block_end_of, whole_of, record_of, step_of}
 use Rattle.walk.specs.Extents.{from, headed}
 use Rattle.walk.proofs.Coming.{came}
 use Rattle.walk.proofs.Extents.{Taken, taken}
@@ -18,7 +19,7 @@ use Rattle.walk.proofs.Places.{step-within}
 
 -- a record that comes at the place is the next step's extent
 pub step-of : (s : List ℕ) (state : State) (at last : ℕ) (h : Head) → head_in s at state ≡ is h → whole_of s at h ≡ is last
-    → step_of s state at ≡ is (extent (from at last (state_after h.role)))
+    → step_of s state at ≡ is (Some (from at last (state_after h.role)))
 unfolding record_of next
 step-of s state at last h e w =
     let m = came s at state h e in
@@ -30,7 +31,7 @@ pub data Given (s : List ℕ) (at : ℕ) : State → Extent → Type 0 where
   a_block : (units end : ℕ) → head_in s at Open ≡ headed Block units → block_end_of s at ≡ is end → Given s at Open (from at end Open)
   an_end : (end : ℕ) → head_in s at Open ≡ headed Closes end → Given s at Open (from at end Closed)
 
-module _ (s : List ℕ) (at : ℕ) (state : State) (e : Extent) (q : step_of s state at ≡ is (extent e)) where
+module _ (s : List ℕ) (at : ℕ) (state : State) (e : Extent) (q : step_of s state at ≡ is (Some e)) where
   pub given : Given s at state e
   unfolding whole_of
   given =

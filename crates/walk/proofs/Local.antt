@@ -5,6 +5,7 @@ use mathlib.Core.List.{List}
 use native.Mathlib.Omega.{arith}
 use lib.ListN.{length, take}
 use Rattle.numbers.specs.Bytes.{byte_at}
+use Rattle.std.specs.Prelude.{Some}
 use Rattle.terms.specs.Reply.{is, need, next}
 use Rattle.terms.proofs.Replies.{next-is}
 use Rattle.records.specs.Layouts.{group_length, group_count, group_at}
@@ -16,7 +17,7 @@ use Rattle.walk.specs.declared.table.State.TheVariants.{Fresh, Open}
 use Rattle.walk.specs.declared.table.Head.{Head}
 use Rattle.walk.specs.declared.step.Extent.{Extent}
 use Rattle.walk.specs.Table.{head_in}
-use Rattle.walk.specs.Walk.{extent, heads_of, block_end_of, whole_of, step_of}
+use Rattle.walk.specs.Walk.{heads_of, block_end_of, whole_of, step_of}
 use Rattle.walk.proofs.Coming.{came, group-whole, head-moved}
 use Rattle.walk.proofs.Extents.{lies}
 use Rattle.walk.proofs.Gives.{Given, a_day, a_block, an_end, given, step-of}
@@ -47,14 +48,14 @@ module _ (s t : List ℕ) (n : ℕ) (a : Agree s t n) where
       let q : h.end ≡ at + (h.end - at) = omega (arith, m.past) in
       head-moved s t at at (h.end - at) state e q (a.same at (omega (arith, m.past))) (omega (arith, a.long)) ∙ ap (λ (end : ℕ). is (record { role = h.role; end = end })) (sym q)
 
-pub step_local : (s t : List ℕ) (state : State) (place : ℕ) (e : Extent) → step_of s state place ≡ is (extent e) → take e.end s ≡ take e.end t
-    → step_of t state place ≡ is (extent e)
+pub step_local : (s t : List ℕ) (state : State) (place : ℕ) (e : Extent) → step_of s state place ≡ is (Some e) → take e.end s ≡ take e.end t
+    → step_of t state place ≡ is (Some e)
 unfolding whole_of
 step_local s t state place e q same =
     let l = lies s state place e q in
     go (given s place state e q) (agree s t e.end l.within same)
   where
-    go : {state : State} {e : Extent} → Given s place state e → Agree s t e.end → step_of t state place ≡ is (extent e)
+    go : {state : State} {e : Extent} → Given s place state e → Agree s t e.end → step_of t state place ≡ is (Some e)
     go (a_day end h) a = step-of t Fresh place end _ (record-local s t _ a place Fresh h (omega arith)) refl
     go (a_block units end h b) a =
         let long = group-whole s place Open _ h refl in

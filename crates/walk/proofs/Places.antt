@@ -6,17 +6,18 @@ use mathlib.Core.List.{List}
 use native.Mathlib.Omega.{arith}
 use borrow.Author.Tests.{lt-ltb, le-ltb, eq-eqb, ne_eqb}
 use lib.ListN.{length}
+use Rattle.std.specs.Prelude.{None}
 use Rattle.terms.specs.Reply.{is, refused, need, next}
 use Rattle.walk.specs.declared.table.State.{State}
 use Rattle.walk.specs.Table.{is_closed, head_in}
-use Rattle.walk.specs.Walk.{done, record_of, step_of}
+use Rattle.walk.specs.Walk.{record_of, step_of}
 
 module _ (s : List ℕ) (state : State) (place : ℕ) where
   pub step-within : place < length s → step_of s state place ≡ record_of s state place
   unfolding step_of
   step-within h = simp (lt-ltb place (length s) h, ne_eqb place (length s) (λ e. omega arith), and-false)
 
-  pub step-done : length s ≤ place → is_closed state ≡ true → step_of s state place ≡ is done
+  pub step-done : length s ≤ place → is_closed state ≡ true → step_of s state place ≡ is None
   unfolding step_of
   step-done h c = simp (le-ltb place (length s) h, eq-eqb (length s) (length s) refl, c)
 

@@ -7,13 +7,14 @@ use native.Mathlib.Omega.{arith}
 use native.Mathlib.Decide.{dec_lt}
 use lib.ListN.{length, take, drop}
 use lib.Seq.{slice, slice_empty, take-add, take-length, drop_at, drop-append-le, length-take-le}
+use Rattle.std.specs.Prelude.{Option, Some, None}
 use Rattle.terms.specs.Reply.{Reply, is, refused}
 use Rattle.terms.proofs.Replies.{never, next-is}
 use Rattle.walk.specs.declared.table.State.{State}
 use Rattle.walk.specs.declared.table.State.TheVariants.{Fresh}
 use Rattle.walk.specs.declared.step.Extent.{Extent}
 use Rattle.walk.specs.Table.{is_closed}
-use Rattle.walk.specs.Walk.{Found, extent, done, follow, record_of, step_of, walk_from}
+use Rattle.walk.specs.Walk.{follow, record_of, step_of, walk_from}
 use Rattle.walk.specs.Extents.{Tiles, last_end, bytes_in}
 use Rattle.walk.proofs.Places.{step-within, step-short}
 use Rattle.walk.proofs.Extents.{lies}
@@ -23,11 +24,11 @@ unfolding walk_from
 walk-tiles s state place zero = refl
 walk-tiles s state place (suc more) = go (step_of s state place) refl (λ e. walk-tiles s e.after e.end more)
   where
-    go : (r : Reply Found) → step_of s state place ≡ r
+    go : (r : Reply (Option Extent)) → step_of s state place ≡ r
         → ((e : Extent) → let es = (walk_from s e.after e.end more).extents in Tiles s e.end es (last_end e.end es))
         → let es = (follow r (λ e. walk_from s e.after e.end more)).extents in Tiles s place es (last_end place es)
-    go (is (extent e)) q later = (lies s state place e q, later e)
-    go (is done) q later = refl
+    go (is (Some e)) q later = (lies s state place e q, later e)
+    go (is None) q later = refl
     go (refused n p) q later = refl
 
 -- extents that tile run from the place to the end
@@ -58,7 +59,7 @@ within s place [] end t h = omega arith
 within s place (e ∷ es) end t h = within s e.end es end t.1 t.0.within
 
 -- only a closed day with nothing left is done
-pub step-is-done : (s : List ℕ) (state : State) (place : ℕ) → step_of s state place ≡ is done → (is_closed state ≡ true) × (length s ≤ place)
+pub step-is-done : (s : List ℕ) (state : State) (place : ℕ) → step_of s state place ≡ is None → (is_closed state ≡ true) × (length s ≤ place)
 unfolding record_of
 step-is-done s state place q = go (dec_lt place (length s)) (is_closed state) refl
   where
@@ -72,21 +73,21 @@ step-is-done s state place q = go (dec_lt place (length s)) (is_closed state) re
     go (no h) false k = never (sym (step-short s state place (omega arith) k) ∙ q)
 
 -- a walk that is done has left nothing
-pub walked_all : (s : List ℕ) (state : State) (place more : ℕ) → (walk_from s state place more).reply ≡ is done
+pub walked_all : (s : List ℕ) (state : State) (place more : ℕ) → (walk_from s state place more).reply ≡ is None
     → length s ≤ last_end place (walk_from s state place more).extents
 unfolding walk_from
 walked_all s state place zero d = (step-is-done s state place d).1
 walked_all s state place (suc more) d = go (step_of s state place) refl (λ e. walked_all s e.after e.end more) d
   where
-    go : (r : Reply Found) → step_of s state place ≡ r
-        → ((e : Extent) → (walk_from s e.after e.end more).reply ≡ is done → length s ≤ last_end e.end (walk_from s e.after e.end more).extents)
-        → let w = follow r (λ e. walk_from s e.after e.end more) in w.reply ≡ is done → length s ≤ last_end place w.extents
-    go (is (extent e)) q later d = later e d
-    go (is done) q later d = (step-is-done s state place q).1
+    go : (r : Reply (Option Extent)) → step_of s state place ≡ r
+        → ((e : Extent) → (walk_from s e.after e.end more).reply ≡ is None → length s ≤ last_end e.end (walk_from s e.after e.end more).extents)
+        → let w = follow r (λ e. walk_from s e.after e.end more) in w.reply ≡ is None → length s ≤ last_end place w.extents
+    go (is (Some e)) q later d = later e d
+    go (is None) q later d = (step-is-done s state place q).1
     go (refused n p) q later d = never d
 
 -- the extents of a whole day that is walked to its end hold its bytes, each once
-pub walk-whole : (s : List ℕ) (more : ℕ) → (walk_from s Fresh 0 more).reply ≡ is done → bytes_in s (walk_from s Fresh 0 more).extents ≡ s
+pub walk-whole : (s : List ℕ) (more : ℕ) → (walk_from s Fresh 0 more).reply ≡ is None → bytes_in s (walk_from s Fresh 0 more).extents ≡ s
 walk-whole s more d =
     let es = (walk_from s Fresh 0 more).extents in
     let t = walk-tiles s Fresh 0 more in

@@ -1,23 +1,30 @@
 -- The heads of units one after another are a reading by steps, which the first refusal ends; those that were all read lie within the bytes.
-use Prim.Native.Nat.{ℕ, zero, suc, ◌+◌, ◌≤◌}
-use mathlib.Core.Path.{◌≡◌, refl}
+use Prim.Native.Nat.{ℕ, zero, suc, ◌+◌, ◌-◌, ◌≤◌, ◌<◌}
+use mathlib.Core.Path.{◌≡◌}
 use mathlib.Core.Bool.{true}
 use mathlib.Core.List.{List}
 use native.Mathlib.Omega.{arith}
 use lib.ListN.{length}
-use Rattle.terms.specs.Reply.{is}
+use Rattle.terms.specs.Reply.{is, next}
 use Rattle.terms.proofs.Replies.{need-is, next-is}
-use Rattle.terms.proofs.FirstRefused.{Steps}
 use Rattle.records.specs.Layouts.{group_length, group_at}
 use Rattle.terms.specs.Checks.{unit_count}
 use Rattle.records.specs.Reading.{unit_head_of}
 use Rattle.records.proofs.UnitHeads.{unit-past, read-end, read-long}
 use Rattle.walk.specs.Walk.{heads_of, block_end_of}
 
--- each unit's head is a step, and the next is read where it ends
-pub heads-steps : (s : List ℕ) → Steps (unit_head_of s) (λ here end. end) (λ here. here) (heads_of s)
+-- one unit more of those that are left, and none
+pub heads_more : (s : List ℕ) (at n i : ℕ) → i < n → heads_of s at (n - i) ≡ next (unit_head_of s at) (λ end. heads_of s end (n - (i + 1)))
 unfolding heads_of
-heads-steps s = record { none = λ here. refl; more = λ here left. refl }
+heads_more s at n i h =
+    let e : n - i ≡ suc (n - (i + 1)) = omega arith in
+    rw e
+
+pub heads_none : (s : List ℕ) (at n i : ℕ) → n ≤ i → heads_of s at (n - i) ≡ is at
+unfolding heads_of
+heads_none s at n i h =
+    let e : n - i ≡ 0 = omega arith in
+    rw e
 
 -- heads that were all read lie one after another within the bytes
 pub record Run (s : List ℕ) (at end : ℕ) : Type 0 where

@@ -1,5 +1,5 @@
 -- "House records": one table gives, for each state and kind, whether the record may come. One byte of kind, then a body whose length the kind fixes.
-use Rattle.std.specs.Prelude.{ℕ, ◌+◌, ◌-◌, ◌≡◌, Bool, true, false, List, [], ◌∷◌, eqb, leb, ltb, length}
+use Rattle.std.specs.Prelude.{ℕ, ◌+◌, ◌-◌, ◌≡◌, Bool, true, false, List, [], ◌∷◌, eqb, leb, ltb, length, Option, Some, None}
 use Rattle.numbers.specs.Bytes.{byte_at}
 use Rattle.numbers.specs.Choice.{pick}
 use Rattle.numbers.specs.Column.{column}
@@ -9,28 +9,28 @@ use Rattle.walk.specs.declared.table.State.{State}
 use Rattle.walk.specs.declared.table.State.TheVariants.{Fresh, Open, Closed}
 use Rattle.walk.specs.declared.table.Role.{Role}
 use Rattle.walk.specs.declared.table.Role.TheVariants.{Opens, Block, Closes}
+use Rattle.walk.specs.declared.table.Entry.{Entry}
 use Rattle.walk.specs.declared.table.Head.{Head}
 
 -- ---- the table
--- an entry: the record comes as what it is to the day, with a body of so many bytes, or it may not come
-pub data Cell : Type 0 where
-  comes : Role → ℕ → Cell
-  none : Cell
+-- an entry: the record comes as what it is to the day, and is so long with its byte of kind
+abbrev pub comes : Role → ℕ → Option Entry
+comes role len = Some (record { role = role; len = len })
 
 -- fresh takes 01h, which opens the day; open takes 02h, a block, and 0Fh, which closes the day; closed takes none
-abbrev pub table : State → ℕ → Cell
-table Fresh kind = pick (eqb kind day_kind) (comes Opens (day_length - 1)) none
-table Open kind = pick (eqb kind group_kind) (comes Block (group_length - 1)) (pick (eqb kind end_kind) (comes Closes (end_length - 1)) none)
-table Closed kind = none
+abbrev pub table : State → ℕ → Option Entry
+table Fresh kind = pick (eqb kind day_kind) (comes Opens day_length) None
+table Open kind = pick (eqb kind group_kind) (comes Block group_length) (pick (eqb kind end_kind) (comes Closes end_length) None)
+table Closed kind = None
 
 -- ---- what it tells
-abbrev pub body : Cell → ℕ
-body (comes role length) = length
-body none = 0
+abbrev pub body : Option Entry → ℕ
+body (Some entry) = entry.len - 1
+body None = 0
 
-abbrev pub role_or : Role → Cell → Role
-role_or other (comes role length) = role
-role_or other none = other
+abbrev pub role_or : Role → Option Entry → Role
+role_or other (Some entry) = entry.role
+role_or other None = other
 
 -- the length of the body, and 0 where the record may not come
 abbrev pub body_of : State → ℕ → ℕ
@@ -92,6 +92,10 @@ pub record Row (state : State) (kind : ℕ) : Type 0 where
 -- what the record that is to begin at a place is to the day, and where it ends
 abbrev pub head_at : List ℕ → ℕ → State → Head
 head_at s at state = record { role = role_of (byte_at s at); end = at + (1 + body_of state (byte_at s at)) }
+
+-- the head of a record that may come: 1 if it does not lie within the bytes
+abbrev pub head_by : Entry → ℕ → ℕ → Reply Head
+head_by entry at n = need (leb (at + entry.len) n) 1 n (is (record { role = entry.role; end = at + entry.len }))
 
 -- its head: 1 if empty, 2, 1
 unfoldable pub head_in : List ℕ → ℕ → State → Reply Head

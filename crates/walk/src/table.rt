@@ -1,14 +1,14 @@
-// One table gives, for each state and kind, whether the record may come, what it is to the day, and how long its body is.
-ghost use Rattle.std.specs.Prelude.{◌≡◌};
-ghost use Rattle.walk.specs.Table.{body_of, role_of, is_block, state_after, is_closed, row_of, head_in, block_head_in};
-ghost use Rattle.walk.specs.Answers.{head_reply, head_refusal};
+// One table gives, for each state and kind, whether the record may come, what it is to the day, and how long it is.
+ghost use Rattle.std.specs.Prelude.{◌≡◌, ◌<◌};
+ghost use Rattle.terms.specs.Refusals.{reply};
+ghost use Rattle.walk.specs.Table.{table, role_of, is_block, state_after, is_closed, head_in, block_head_in, head_by};
 
 use records::day::DayRecord;
 use records::end::EndRecord;
 use records::group::GroupRecord;
-use terms::refusal::{Refusal, Why, no_refusal};
+use terms::refusal::{Refusal, Why};
 
-#[derive(Clone, Copy)]
+#[derive(Clone, Copy, PartialEq, Eq, Debug)]
 pub enum State {
     Fresh,
     Open,
@@ -16,31 +16,52 @@ pub enum State {
 }
 
 // What a record is to a day.
-#[derive(Clone, Copy)]
+#[derive(Clone, Copy, PartialEq, Eq, Debug)]
 pub enum Role {
     Opens,
     Block,
     Closes,
 }
 
-// The kinds that the table has a column for; no record of a higher kind may come.
-const KINDS: usize = 16;
+// A record that may come: what it is to the day, and its length with the byte of kind; of a block, that of its group record.
+#[derive(Clone, Copy, PartialEq, Eq, Debug)]
+pub struct Entry {
+    pub role: Role,
+    pub len: usize,
+}
 
-// A record's body is what comes after its byte of kind. Its length is kept in a byte: the table is laid out at each look, and bytes take the fewest stores.
-const DAY: u8 = (DayRecord::LEN - 1) as u8;
+const NONE: Option<Entry> = None;
 
-const GROUP: u8 = (GroupRecord::LEN - 1) as u8;
+const DAY: Option<Entry> = Some(Entry {
+    role: Role::Opens,
+    len: DayRecord::LEN,
+});
 
-const END: u8 = (EndRecord::LEN - 1) as u8;
+const GROUP: Option<Entry> = Some(Entry {
+    role: Role::Block,
+    len: GroupRecord::LEN,
+});
 
-// A row for each state: the length of the body, and 0 where the record may not come.
-const BODIES: [[u8; 16]; 3] = [
-    [0, DAY, 0, 0, 0, 0, 0, 0, 0, 0, 0, 0, 0, 0, 0, 0],
-    [0, 0, GROUP, 0, 0, 0, 0, 0, 0, 0, 0, 0, 0, 0, 0, END],
-    [0, 0, 0, 0, 0, 0, 0, 0, 0, 0, 0, 0, 0, 0, 0, 0],
+const END: Option<Entry> = Some(Entry {
+    role: Role::Closes,
+    len: EndRecord::LEN,
+});
+
+// A row for each state, and a column for each kind; no record of a kind past them may come. A `const` would be laid out anew at each look.
+static TABLE: [[Option<Entry>; 16]; 3] = [
+    [
+        NONE, DAY, NONE, NONE, NONE, NONE, NONE, NONE, NONE, NONE, NONE, NONE, NONE, NONE, NONE,
+        NONE,
+    ],
+    [
+        NONE, NONE, GROUP, NONE, NONE, NONE, NONE, NONE, NONE, NONE, NONE, NONE, NONE, NONE, NONE,
+        END,
+    ],
+    [NONE; 16],
 ];
 
-// What a record of a kind that the table takes is to the day.
+// What a record of a kind that some state takes is to the day. Of any other kind it says nothing, and no caller reads more of that than that it is no block.
+// No Option: it is a public function that cannot fail, and the theorems on what is taken speak of its definition. By two tests, since a refused call takes a fifth more instructions where the table is asked; tests/bench.
 pub fn role_of(kind: u8) -> Role
     ensures { result ≡ role_of kind }
 {
@@ -57,11 +78,7 @@ impl Role {
     pub fn is_block(self) -> bool
         ensures { result ≡ is_block self }
     {
-        match self {
-            Role::Opens => false,
-            Role::Block => true,
-            Role::Closes => false,
-        }
+        self == Role::Block
     }
 
     // The state of a day after such a record.
@@ -77,109 +94,84 @@ impl Role {
 }
 
 impl State {
-    fn row(self) -> usize
-        ensures { result ≡ row_of self }
-    {
-        match self {
-            State::Fresh => 0,
-            State::Open => 1,
-            State::Closed => 2,
-        }
-    }
-
     pub fn is_closed(self) -> bool
         ensures { result ≡ is_closed self }
     {
-        match self {
-            State::Fresh => false,
-            State::Open => false,
-            State::Closed => true,
-        }
+        self == State::Closed
     }
 
-    // The length of the body of a record of this kind that comes now, and 0 where it may not.
-    pub fn body(self, kind: u8) -> usize
-        ensures { result ≡ body_of self kind }
+    // The record of this kind that comes now, if it may. A kind is the byte that lies there, which may be any.
+    pub fn coming(self, kind: u8) -> Option<Entry>
+        ensures { result ≡ table self kind }
     {
-        let k = kind as usize;
-        if KINDS <= k {
-            return 0;
+        if kind < 16 {
+            TABLE[self as usize][usize::from(kind)]
+        } else {
+            None
         }
-        let row = self.row();
-        BODIES[row][k] as usize
     }
 }
 
 // What a record whose head was read is to the day, and where the record ends.
-#[derive(Clone, Copy)]
+#[derive(Clone, Copy, PartialEq, Eq, Debug)]
 pub struct Head {
     pub role: Role,
     pub end: usize,
 }
 
-#[derive(Clone, Copy)]
-pub enum HeadAnswer {
-    Is(Head),
-    Refused(Refusal),
-}
-
-impl HeadAnswer {
-    // The refusal of an answer that is one: `let .. else` does not bind it.
-    pub fn refusal(self) -> Refusal
-        ensures { result ≡ head_refusal self }
-    {
-        match self {
-            HeadAnswer::Is(_) => no_refusal(),
-            HeadAnswer::Refused(r) => r,
-        }
-    }
-}
-
-// The head of the record that comes at a place: 1 if nothing is there, 2, 1.
-pub fn head_in(s: &[u8], at: usize, state: State) -> HeadAnswer
-    ensures { head_reply result ≡ head_in s.now at state }
+// The head of a record that may come and begins within the bytes: 1.
+#[tactic(auto, unfolding(terms::specs::Reply::need))]
+fn head_by(entry: Entry, at: usize, n: usize) -> Result<Head, Refusal>
+    requires { at < n }
+    ensures { reply result ≡ head_by entry at n }
 {
-    let n = s.len();
-    if n <= at {
-        return HeadAnswer::Refused(Refusal {
+    if n - at < entry.len {
+        return Err(Refusal {
             why: Why::CutShort,
             place: n,
         });
     }
-    let kind = s[at];
-    let body = state.body(kind);
-    if body == 0 {
-        return HeadAnswer::Refused(Refusal {
-            why: Why::Kind,
-            place: at,
-        });
-    }
-    if n - at <= body {
-        return HeadAnswer::Refused(Refusal {
-            why: Why::CutShort,
-            place: n,
-        });
-    }
-    HeadAnswer::Is(Head {
-        role: role_of(kind),
-        end: at + (1 + body),
+    Ok(Head {
+        role: entry.role,
+        end: at + entry.len,
     })
 }
 
-// The head of the block that comes at a place: 1 if nothing is there, 2 for any other record, 1.
-pub fn block_head(s: &[u8], at: usize, state: State) -> HeadAnswer
-    ensures { head_reply result ≡ block_head_in s.now at state }
+// The head of the record that comes at a place: 1 if nothing is there, 2, 1. By slice and place, as the walk is; a day asks at 0.
+#[tactic(auto, unfolding(crate::specs::Table::head_in, terms::specs::Reply::need))]
+pub fn head_in(s: &[u8], at: usize, state: State) -> Result<Head, Refusal>
+    ensures { reply result ≡ head_in s.now at state }
 {
     let n = s.len();
     if n <= at {
-        return HeadAnswer::Refused(Refusal {
+        return Err(Refusal {
             why: Why::CutShort,
             place: n,
         });
     }
-    let role = role_of(s[at]);
-    if !role.is_block() {
-        return HeadAnswer::Refused(Refusal {
+    match state.coming(s[at]) {
+        Some(entry) => head_by(entry, at, n),
+        None => Err(Refusal {
+            why: Why::Kind,
+            place: at,
+        }),
+    }
+}
+
+// The head of the block that comes at a place: 1 if nothing is there, 2 for any other record, 1. By slice and place, as above.
+#[tactic(auto, unfolding(crate::specs::Table::block_head_in, crate::specs::Table::head_in, terms::specs::Reply::need))]
+pub fn block_head(s: &[u8], at: usize, state: State) -> Result<Head, Refusal>
+    ensures { reply result ≡ block_head_in s.now at state }
+{
+    let n = s.len();
+    if n <= at {
+        return Err(Refusal {
+            why: Why::CutShort,
+            place: n,
+        });
+    }
+    if !role_of(s[at]).is_block() {
+        return Err(Refusal {
             why: Why::Kind,
             place: at,
         });

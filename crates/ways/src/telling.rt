@@ -1,120 +1,101 @@
 // Answers as numbers: a refusal's number, or 0 where the call was accepted, and then the refusal's place, or what the call gives back.
 ghost use Rattle.ways.specs.Telling.{Told};
 
-use crate::number_of;
-use blocks::check::BlockAnswer;
-use group::judge::{Judgement, Sums};
-use numbers::signed::to_bits;
-use partner::line::{LineAnswer, LineRead};
-use terms::refusal::{Answer, Refusal};
-use walk::step::{Extent, Step};
+use blocks::check::Block;
+use day::offer::Lengths;
+use group::judge::Sums;
+use partner::line::LineRead;
+use terms::refusal::Refusal;
+use walk::step::Extent;
 
 // What stands in the place of a refusal's number where a walk is done.
 const DONE: u64 = 255;
 
 // A signed number is told by its 32 bits.
 fn bits(x: i32) -> u64 {
-    to_bits(x) as u64
+    u64::from(x.cast_unsigned())
 }
 
-pub fn refused(r: Refusal) -> [u64; 7]
+fn refused(r: Refusal) -> [u64; 7]
     ensures { Told result }
 {
-    let why = r.why;
-    [why.number() as u64, r.place as u64, 0, 0, 0, 0, 0]
+    [u64::from(r.why.number()), r.place as u64, 0, 0, 0, 0, 0]
 }
 
-pub fn lengths(used: usize, written: usize) -> [u64; 7]
+fn lengths(used: usize, written: usize) -> [u64; 7]
     ensures { Told result }
 {
     [0, used as u64, written as u64, 0, 0, 0, 0]
 }
 
-pub fn told_written(a: Answer) -> [u64; 7]
-    ensures { Told result }
-{
-    match a {
-        Answer::Is(n) => lengths(n, 0),
-        Answer::Refused(r) => refused(r),
+// What a call gives back, as numbers.
+pub trait Numbers {
+    fn numbers(self) -> [u64; 7]
+        ensures { Told result };
+}
+
+// How many bytes were written.
+impl Numbers for usize {
+    fn numbers(self) -> [u64; 7] {
+        lengths(self, 0)
     }
 }
 
-pub fn told_block(b: BlockAnswer) -> [u64; 7]
-    ensures { Told result }
-{
-    match b {
-        BlockAnswer::Is(block) => lengths(block.used, block.written),
-        BlockAnswer::Refused(r) => refused(r),
+impl Numbers for Lengths {
+    fn numbers(self) -> [u64; 7] {
+        lengths(self.used, self.written)
     }
 }
 
-fn told_sums(s: Sums) -> [u64; 7]
-    ensures { Told result }
-{
-    [
-        0,
-        s.verdict as u64,
-        bits(s.p.0),
-        bits(s.s1.0),
-        bits(s.s2.0),
-        bits(s.s3.0),
-        bits(s.balance.0),
-    ]
-}
-
-pub fn told_judgement(j: Judgement) -> [u64; 7]
-    ensures { Told result }
-{
-    match j {
-        Judgement::Accepted(s) => told_sums(s),
-        Judgement::Refused(r) => refused(r),
+impl Numbers for Block {
+    fn numbers(self) -> [u64; 7] {
+        lengths(self.used, self.written)
     }
 }
 
-fn told_extent(e: Extent) -> [u64; 7]
-    ensures { Told result }
-{
-    let after = e.after;
-    [
-        0,
-        e.start as u64,
-        e.end as u64,
-        number_of(after) as u64,
-        0,
-        0,
-        0,
-    ]
-}
-
-pub fn told_step(s: Step) -> [u64; 7]
-    ensures { Told result }
-{
-    match s {
-        Step::Record(e) => told_extent(e),
-        Step::Refused(r) => refused(r),
-        Step::Done => [DONE, 0, 0, 0, 0, 0, 0],
+impl Numbers for Sums {
+    fn numbers(self) -> [u64; 7] {
+        [
+            0,
+            u64::from(self.verdict),
+            bits(self.p.0),
+            bits(self.s1.0),
+            bits(self.s2.0),
+            bits(self.s3.0),
+            bits(self.balance.0),
+        ]
     }
 }
 
-fn told_read(l: LineRead) -> [u64; 7]
-    ensures { Told result }
-{
-    [
-        0,
-        l.used as u64,
-        l.line.number as u64,
-        l.line.quarter as u64,
-        bits(l.line.n.0),
-        bits(l.line.margins.step_down),
-        bits(l.line.margins.step_up),
-    ]
+// Where a record lies, or that a walk is done.
+impl Numbers for Option<Extent> {
+    fn numbers(self) -> [u64; 7] {
+        match self {
+            Some(e) => [0, e.start as u64, e.end as u64, e.after as u64, 0, 0, 0],
+            None => [DONE, 0, 0, 0, 0, 0, 0],
+        }
+    }
 }
 
-pub fn told_line(a: LineAnswer) -> [u64; 7]
+impl Numbers for LineRead {
+    fn numbers(self) -> [u64; 7] {
+        [
+            0,
+            self.used as u64,
+            u64::from(self.line.number),
+            u64::from(self.line.quarter),
+            bits(self.line.n.0),
+            bits(self.line.margins.step_down),
+            bits(self.line.margins.step_up),
+        ]
+    }
+}
+
+pub fn told_by<T: Numbers>(reply: Result<T, Refusal>) -> [u64; 7]
     ensures { Told result }
 {
-    match a {
-        LineAnswer::Is(l) => told_read(l),
-        LineAnswer::Refused(r) => refused(r),
+    match reply {
+        Ok(x) => x.numbers(),
+        Err(r) => refused(r),
     }
 }

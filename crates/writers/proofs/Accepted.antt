@@ -1,43 +1,75 @@
 -- What the block writer accepted has passed each of its tests in turn.
+use Rattle.std.specs.Prelude.{Result, Ok}
 use Prim.Native.Nat.{ℕ, zero, suc, ◌+◌, ◌≤◌, ◌<◌}
-use mathlib.Core.Path.{◌≡◌, sym, ap, ◌∙◌}
-use mathlib.Core.Bool.{true, and-eq-true_iff}
+use mathlib.Core.Path.{◌≡◌, refl, sym, ap, ◌∙◌}
+use mathlib.Core.Bool.{Bool, true, false, ◌&&◌, and-eq-true_iff}
+use lib.Dec.{eqb}
+use Rattle.std.specs.Prelude.{◌==◌, MatchResult}
+use Rattle.std.specs.List.{list_all}
 use mathlib.Core.List.{List, [], ◌∷◌}
 use native.Mathlib.Omega.{arith}
-use borrow.Author.Tests.{ltb-true, leb-true, eqb-true}
-use Rattle.terms.specs.Reply.{Reply, is}
-use Rattle.terms.specs.Refusals.{passed, first_fault}
+use borrow.Author.Tests.{ltb-true, leb-true, eqb-true, eq-eqb}
+use Rattle.terms.specs.Reply.{Reply, is, need}
+use Rattle.terms.specs.Refusals.{passed, first_fault, refusal}
 use Rattle.terms.specs.Checks.{most_units}
-use Rattle.terms.specs.declared.refusal.Checked.{Checked}
-use Rattle.terms.specs.declared.refusal.Checked.TheVariants.{Fine}
 use Rattle.terms.proofs.Replies.{need-is, next-is}
 use Rattle.terms.proofs.Scan.{all-fine}
 use Rattle.records.specs.declared.group.GroupRecord.{GroupRecord}
-use Rattle.writers.specs.Columns.{Columns, count, same, others, even, row_checks}
+use Rattle.writers.specs.Columns.{Columns, count, same, even, row_checks}
 use Rattle.writers.specs.Writing.{room_for, group_checks, block_length, units_checked, write_block_of, group_over}
-use Rattle.writers.specs.Inner.{Enough, Long}
+use Rattle.writers.specs.Inner.{Level}
+use Rattle.terms.specs.declared.refusal.Fault.{Fault}
+use Rattle.terms.specs.declared.refusal.Refusal.{Refusal}
+use Rattle.terms.specs.declared.refusal.Why.TheVariants.{Columns as Uneven}
+use Rattle.writers.specs.declared.units.Units.{Units}
+use Rattle.writers.specs.Units.{listed}
 
--- lengths that are all the same are enough for as many, and for fewer
-alike : (n : ℕ) (ms : List ℕ) → same n ms ≡ true → Enough n ms
+-- columns of one length are even, and the other way round
+pub level_even : (c : Columns) → Level c → even c ≡ true
+unfolding even same
+level_even c l =
+    let go : (m n : ℕ) → m ≡ n → eqb m n ≡ true = λ m n e. eq-eqb m n e in
+    rw (go _ _ l.classes, go _ _ l.coincidences, go _ _ l.nominations, go _ _ l.ns, go _ _ l.pcs, go _ _ l.downs, go _ _ l.ups, go _ _ l.minutes, go _ _ l.kinds, go _ _ l.lowers, go _ _ l.uppers)
+
+pub all_same : (n : ℕ) (ms : List ℕ) → list_all (λ m. m == n) ms ≡ same n ms
 unfolding same
-alike n [] e = tt
-alike n (m ∷ ms) e =
+all_same n [] = refl
+all_same n (m ∷ ms) = ap (λ (b : Bool). eqb m n && b) (all_same n ms)
+
+head_same : (n m : ℕ) (ms : List ℕ) → same n (m ∷ ms) ≡ true → (m ≡ n) × (same n ms ≡ true)
+unfolding same
+head_same n m ms e =
     let p = (and-eq-true_iff _ _).0 e in
-    let q = eqb-true m n p.0 in
-    (omega arith, alike n ms p.1)
+    (eqb-true m n p.0, p.1)
 
-fewer : {n k : ℕ} (ms : List ℕ) → Enough n ms → k ≤ n → Enough k ms
-fewer [] e h = tt
-fewer (m ∷ ms) e h = (omega (arith, e.0), fewer ms e.1 h)
-
--- columns of equal length are long enough for their count
-pub long : (c : Columns) → even c ≡ true → count c ≤ most_units → Long (count c) c
+pub even_level : (c : Columns) → even c ≡ true → Level c
 unfolding even
-long c e h = record { few = h; number = omega arith; others = alike _ _ e }
-
--- and for a unit among them
-pub long-below : (c : Columns) {units i : ℕ} → Long units c → i < units → Long (i + 1) c
-long-below c l h = record { few = omega (arith, l.few); number = omega (arith, l.number); others = fewer (others c) l.others (omega arith) }
+even_level c e0 =
+    let n = count c in
+    let e1 = head_same n _ _ e0 in
+    let e2 = head_same n _ _ e1.1 in
+    let e3 = head_same n _ _ e2.1 in
+    let e4 = head_same n _ _ e3.1 in
+    let e5 = head_same n _ _ e4.1 in
+    let e6 = head_same n _ _ e5.1 in
+    let e7 = head_same n _ _ e6.1 in
+    let e8 = head_same n _ _ e7.1 in
+    let e9 = head_same n _ _ e8.1 in
+    let ea = head_same n _ _ e9.1 in
+    let eb = head_same n _ _ ea.1 in
+    record {
+      classes = e1.0;
+      coincidences = e2.0;
+      nominations = e3.0;
+      ns = e4.0;
+      pcs = e5.0;
+      downs = e6.0;
+      ups = e7.0;
+      minutes = e8.0;
+      kinds = e9.0;
+      lowers = ea.0;
+      uppers = eb.0;
+    }
 
 -- the group's own fields
 pub record Grouped (g : GroupRecord) (units : ℕ) : Type 0 where
@@ -57,11 +89,20 @@ pub asked : {g h : GroupRecord} (c : Columns) (room : ℕ) {x : Reply ℕ} → h
 unfolding write_block_of group_checks
 asked c room e f = sym (f ∙ ap (λ (y : GroupRecord). write_block_of y c room) e)
 
+-- columns that are not even are refused
+pub uneven : (g : GroupRecord) (k : Columns) (room : ℕ) (f : Refusal) → f ≡ record { why = Uneven; place = 0 } → even k ≡ false → write_block_of g k room ≡ refusal f
+unfolding write_block_of need
+uneven g k room f e h = rw (e, h)
+
+-- level columns are those that were given
+pub levelled : (r : Result Units Refusal) (u : Units) (k : Columns) (P : Refusal → Type 0) → r ≡ Ok u → MatchResult r (λ v. listed v ≡ k) P → listed u ≡ k
+levelled r u k P e h = rw e at h
+
 -- the whole block
 pub record Accepted (g : GroupRecord) (c : Columns) (room n : ℕ) : Type 0 where
   pub evenly : even c ≡ true
   pub group : Grouped g (count c)
-  pub fine : (i : ℕ) → i < count c → row_checks c i ≡ Fine
+  pub fine : (i : ℕ) → i < count c → row_checks c i ≡ Ok tt
   pub bytes : n ≡ block_length c
   pub enough : n ≤ room
 
@@ -85,7 +126,7 @@ accepted g c room {n} e =
     }
 
 -- units that are all fine are counted
-pub fine-scan : (checks : ℕ → Checked) (i left : ℕ) → ((j : ℕ) → i ≤ j → j < i + left → checks j ≡ Fine) → first_fault checks i left ≡ is (i + left)
+pub fine-scan : (checks : ℕ → Result Unit Fault) (i left : ℕ) → ((j : ℕ) → i ≤ j → j < i + left → checks j ≡ Ok tt) → first_fault checks i left ≡ is (i + left)
 unfolding first_fault passed
 fine-scan checks i zero h =
     let e : i + 0 ≡ i = omega arith in

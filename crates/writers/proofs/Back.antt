@@ -1,4 +1,5 @@
 -- What a writer accepted, read by the layouts, gives the values that it was given, and a day that takes the group and the ages accepts it.
+use Rattle.std.specs.Prelude.{Result, Ok, Option}
 use Prim.Native.Nat.{ℕ, zero, suc, ◌+◌, ◌*◌, ◌≤◌, ◌<◌}
 use mathlib.Core.Path.{◌≡◌, refl, sym, ap, ◌∙◌}
 use mathlib.Core.Bool.{true}
@@ -7,17 +8,15 @@ use native.Mathlib.Omega.{arith}
 use lib.ListN.{length, drop}
 use borrow.Author.Tests.{le-leb}
 use Rattle.terms.specs.Reply.{Reply, is, next}
-use Rattle.terms.specs.Refusals.{answer, check}
+use Rattle.terms.specs.Refusals.{reply, check}
 use Rattle.terms.specs.Checks.{most_units, unit_count}
-use Rattle.terms.specs.declared.refusal.Answer.{Answer}
-use Rattle.terms.specs.declared.refusal.Checked.TheVariants.{Fine}
 use Rattle.terms.proofs.Replies.{need-is}
+use Rattle.records.specs.declared.key.Key.{Key}
 use Rattle.records.specs.declared.day.DayRecord.{DayRecord}
 use Rattle.records.specs.declared.group.GroupRecord.{GroupRecord}
 use Rattle.records.specs.declared.unit.UnitRecord.{UnitRecord}
 use Rattle.records.specs.declared.end.EndRecord.{EndRecord}
 use Rattle.records.specs.declared.group_result.GroupResult.{GroupResult}
-use Rattle.records.specs.declared.key.Last.{Last}
 use Rattle.records.specs.Layouts.{day_at, day_bytes, group_length, group_bytes, unit_at, unit_bytes, length_of, end_at, end_bytes}
 use Rattle.records.specs.Layouts.{group_result_length, group_result_at, group_result_bytes, unit_result_length, unit_result_at, unit_result_bytes}
 use Rattle.records.specs.Reading.{day_of, group_of, judged_by, end_of, also, unit_faults, units_of, unit_end, place_from, unit_place, unit_in}
@@ -31,16 +30,17 @@ use Rattle.writers.proofs.Lengths.{length-units, length-group-result, length-res
 use Rattle.writers.proofs.Accepted.{Accepted, accepted}
 use Rattle.writers.proofs.Fields.{day-read, day-reads, length-group, group-read, group_reads, end_read, end_reads, group-result-read, unit-result-read}
 use Rattle.writers.proofs.UnitBytes.{unit-read, unit-reads}
+use Rattle.terms.specs.declared.refusal.Refusal.{Refusal}
 
 -- the room begins with what was written
-pub front : {right : Reply ℕ} (bytes entry : List ℕ) {r : Answer} {exit : List ℕ} {n : ℕ} → Wrote right bytes entry r exit → answer r ≡ is n
+pub front : {right : Reply ℕ} (bytes entry : List ℕ) {r : Result ℕ Refusal} {exit : List ℕ} {n : ℕ} → Wrote right bytes entry r exit → reply r ≡ is n
     → (right ≡ is n) × (exit ≡ bytes ++ drop n entry)
 unfolding laid
 front bytes entry w e =
     let q = sym w.replied ∙ e in
     (q, w.room ∙ rw q)
 
-module _ {entry exit : List ℕ} {r : Answer} {n : ℕ} (done : answer r ≡ is n) where
+module _ {entry exit : List ℕ} {r : Result ℕ Refusal} {n : ℕ} (done : reply r ≡ is n) where
   pub day-back : (d : DayRecord) → DayWritten d entry r exit → (day_at exit 0 ≡ d) × (day_of exit ≡ is d)
   unfolding write_day_of
   day-back d w =
@@ -77,7 +77,7 @@ module _ (g : GroupRecord) (c : Columns) (rest s : List ℕ) (so : s ≡ block_b
     unit-in : (i : ℕ) → i < count c → unit_in s i ≡ row_of c i
     unit-in i h = rw (place_is i (omega arith)) (unit-is i h)
 
-    module _ (day : DayRecord) (fine : (i : ℕ) → i < count c → unit_faults (row_of c i) (floor_at c i) day ≡ Fine) where
+    module _ (day : DayRecord) (fine : (i : ℕ) → i < count c → unit_faults (row_of c i) (floor_at c i) day ≡ Ok tt) where
       -- from unit i on
       units_in : (left i : ℕ) → i + left ≡ count c → units_of s (units_end c i) (floor_at c i) day left ≡ is (block_length c)
       unfolding units_of next floor_at units_end
@@ -91,12 +91,12 @@ module _ (g : GroupRecord) (c : Columns) (rest s : List ℕ) (so : s ≡ block_b
           (ap (λ (u : UnitRecord). units_of s (units_end c i + length_of u) ((row_of c i).number + 1) day left) (unit-is i h) ∙ units_in left (suc i) (omega arith))
 
 -- past the other checks, the age decides
-aged-fine : (c : Columns) (day : DayRecord) (i : ℕ) → i < count c → row_checks c i ≡ Fine → Fresh c day
-    → unit_faults (row_of c i) (floor_at c i) day ≡ Fine
+aged-fine : (c : Columns) (day : DayRecord) (i : ℕ) → i < count c → row_checks c i ≡ Ok tt → Fresh c day
+    → unit_faults (row_of c i) (floor_at c i) day ≡ Ok tt
 unfolding unit_faults also check
 aged-fine c day i h e f = simp (e, f.each i h)
 
-module _ (g : GroupRecord) (c : Columns) {entry exit : List ℕ} {r : Answer} {n : ℕ} (done : answer r ≡ is n) (w : BlockWritten g c entry r exit) where
+module _ (g : GroupRecord) (c : Columns) {entry exit : List ℕ} {r : Result ℕ Refusal} {n : ℕ} (done : reply r ≡ is n) (w : BlockWritten g c entry r exit) where
   abbrev group : GroupRecord
   group = group_over g c
 
@@ -120,7 +120,7 @@ module _ (g : GroupRecord) (c : Columns) {entry exit : List ℕ} {r : Answer} {n
         unit = unit-in group c (drop n entry) exit in-room.1 sounds;
       }
 
-  pub block-taken : (day : DayRecord) (last : Last) → Joins (group_over g c) day last → Fresh c (judged_by (group_over g c) day)
+  pub block-taken : (day : DayRecord) (last : Option Key) → Joins (group_over g c) day last → Fresh c (judged_by (group_over g c) day)
       → (group_of exit day last ≡ is (group_over g c)) × (units_of exit group_length 0 (judged_by (group_over g c) day) (count c) ≡ is n)
   unfolding floor_at units_end
   block-taken day last j k =

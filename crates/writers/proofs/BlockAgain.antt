@@ -1,4 +1,5 @@
 -- A block that a reader accepted, written again from its values as columns, gives the same bytes: each unit is a row of the columns, and passes.
+use Rattle.std.specs.Prelude.{Result, Ok, Option}
 use Prim.Native.Nat.{ℕ, zero, suc, ◌+◌, ◌≤◌, ◌<◌}
 use mathlib.Core.Path.{◌≡◌, refl, sym, ap, ◌∙◌}
 use mathlib.Core.Bool.{true}
@@ -11,15 +12,13 @@ use borrow.Author.Tests.{eq-eqb, le-leb, lt-ltb}
 use Rattle.numbers.specs.Bytes.{Bytes}
 use Rattle.numbers.proofs.Columns.{column-length, column-at}
 use Rattle.terms.specs.Reply.{is, need, next}
-use Rattle.terms.specs.Refusals.{answer}
+use Rattle.terms.specs.Refusals.{reply}
 use Rattle.terms.specs.Checks.{unit_count}
-use Rattle.terms.specs.declared.refusal.Answer.{Answer}
-use Rattle.terms.specs.declared.refusal.Checked.TheVariants.{Fine}
 use Rattle.terms.proofs.Replies.{next-is}
+use Rattle.records.specs.declared.key.Key.{Key}
 use Rattle.records.specs.declared.day.DayRecord.{DayRecord}
 use Rattle.records.specs.declared.group.GroupRecord.{GroupRecord}
 use Rattle.records.specs.declared.unit.UnitRecord.{UnitRecord}
-use Rattle.records.specs.declared.key.Last.{Last}
 use Rattle.records.specs.Layouts.{group_kind, group_length, unit_bytes, length_of}
 use Rattle.records.specs.Inner.{is_whole}
 use Rattle.records.proofs.UnitHeads.{read_whole}
@@ -36,6 +35,7 @@ use Rattle.writers.proofs.Accepted.{fine-scan}
 use Rattle.writers.proofs.Fields.{group-laid}
 use Rattle.writers.proofs.UnitBytes.{length-unit, unit-laid}
 use Rattle.writers.proofs.Again.{written}
+use Rattle.terms.specs.declared.refusal.Refusal.{Refusal}
 
 -- the floor of a unit's number, by the layout
 floor_in : List ℕ → ℕ → ℕ
@@ -45,7 +45,7 @@ floor_in s (suc i) = (unit_in s i).number + 1
 -- a unit that the reader passed
 record Read (s : List ℕ) (i : ℕ) : Type 0 where
   pub whole : is_whole s (unit_place s i) ≡ true
-  pub fine : value_faults (unit_in s i) (floor_in s i) ≡ Fine
+  pub fine : value_faults (unit_in s i) (floor_in s i) ≡ Ok tt
 
 module _ (s : List ℕ) (day : DayRecord) where
   read_one : (i : ℕ) {u : UnitRecord} → unit_of s (unit_place s i) (floor_in s i) day ≡ is u → Read s i
@@ -90,7 +90,7 @@ module _ (s : List ℕ) (units : ℕ) where
   even-in = simp (column-length, eq-eqb units units refl)
 
 -- ---- the whole block
-module _ (s : List ℕ) (small : Bytes s) (day : DayRecord) (last : Last) (g : GroupRecord) {n : ℕ} (right : permitted day.quarters ≡ true)
+module _ (s : List ℕ) (small : Bytes s) (day : DayRecord) (last : Option Key) (g : GroupRecord) {n : ℕ} (right : permitted day.quarters ≡ true)
     (group : group_of s day last ≡ is g) (units : units_of s group_length 0 (judged_by g day) g.count ≡ is n) where
   abbrev values : Columns
   values = columns_in s g.count
@@ -124,7 +124,7 @@ module _ (s : List ℕ) (small : Bytes s) (day : DayRecord) (last : Last) (g : G
       let fits = le-leb (block_length values) room (omega (arith, ends)) in
       simp (even-in s g.count, soon, some, all, fits) (ap is (sym ends))
     where
-      fine : (i : ℕ) → i < g.count → row_checks values i ≡ Fine
+      fine : (i : ℕ) → i < g.count → row_checks values i ≡ Ok tt
       fine i h = rw (row_in s g.count i h, floor-in s g.count i h) (reads i h).fine
 
   -- and lays them as the block's bytes
@@ -140,8 +140,8 @@ module _ (s : List ℕ) (small : Bytes s) (day : DayRecord) (last : Last) (g : G
       let rest = run-again (λ (i : ℕ). unit_bytes (row_of values i)) s group_length (count values) (λ i h. unit-again i (rw counted at h)) in
       rw (first, rest, ends, ← length-units values (count values)) (sym (take-add group_length (length (units_bytes values (count values))) s))
 
-  pub block-again : {entry exit : List ℕ} {r : Answer} → n ≤ length entry → BlockWritten g (columns_in s g.count) entry r exit
-      → (answer r ≡ is n) × (take n exit ≡ take n s)
+  pub block-again : {entry exit : List ℕ} {r : Result ℕ Refusal} → n ≤ length entry → BlockWritten g (columns_in s g.count) entry r exit
+      → (reply r ≡ is n) × (take n exit ≡ take n s)
   block-again {entry} h w =
       let same : group_over g values ≡ g = rw counted in
       written (block_bytes g values) entry n s (rw same at w) (takes (length entry) h) (length-block g values ∙ sym ends) lays

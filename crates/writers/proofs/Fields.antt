@@ -1,4 +1,5 @@
 -- The bytes of each record but the unit: as long as it is, read as its values and accepted wherever they were laid, and laid again from what stands there. No other law of the writers takes them apart.
+use Rattle.std.specs.Prelude.{Option}
 use Prim.Native.Nat.{ℕ}
 use mathlib.Core.Path.{◌≡◌, refl}
 use mathlib.Core.Bool.{true}
@@ -9,12 +10,12 @@ use borrow.Author.Tests.{lt-ltb, eq-eqb}
 use Rattle.numbers.specs.Bytes.{Bytes, bytes16, bytes32}
 use Rattle.terms.specs.Reply.{is, need, next}
 use Rattle.terms.specs.Checks.{unit_count}
+use Rattle.records.specs.declared.key.Key.{Key}
 use Rattle.records.specs.declared.day.DayRecord.{DayRecord}
 use Rattle.records.specs.declared.group.GroupRecord.{GroupRecord}
 use Rattle.records.specs.declared.end.EndRecord.{EndRecord}
 use Rattle.records.specs.declared.group_result.GroupResult.{GroupResult}
 use Rattle.records.specs.declared.unit_result.UnitResult.{UnitResult}
-use Rattle.records.specs.declared.key.Last.{Last}
 use Rattle.records.specs.Layouts.{behind, day_kind, day_length, day_table, day_at, day_bytes, day_length_of}
 use Rattle.records.specs.Layouts.{group_kind, group_length, group_table, group_at, group_bytes}
 use Rattle.records.specs.Layouts.{end_kind, end_length, end_table, end_at, end_bytes}
@@ -65,7 +66,7 @@ module _ (s rest : List ℕ) (g : GroupRecord) (e : s ≡ group_bytes g ++ rest)
   unfolding group_bytes behind bytes16 bytes32
   group-head = head_read s 0 group_kind (group_bytes g) rest e refl (omega arith) group_length refl
 
-  pub group_reads : (day : DayRecord) (last : Last) → unit_count g.count ≡ true → Joins g day last → group_of s day last ≡ is g
+  pub group_reads : (day : DayRecord) (last : Option Key) → unit_count g.count ≡ true → Joins g day last → group_of s day last ≡ is g
   unfolding group_of group_fields_of next need
   group_reads day last n j = simp (group-head, group-read, lt-ltb g.quarter day.quarters j.early, n, j.above, j.fresh)
 

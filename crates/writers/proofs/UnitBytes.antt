@@ -1,4 +1,5 @@
 -- A unit's bytes: as long as its record, read as its values wherever they were laid, and laid again from what stands there, by its kind. No other law of the writers takes them apart.
+use Rattle.std.specs.Prelude.{Ok}
 use Prim.Native.Nat.{ℕ, ◌+◌, ◌≤◌}
 use mathlib.Core.Path.{◌≡◌, refl, sym, ap, ◌∙◌}
 use mathlib.Core.Bool.{Bool, true, false, ◌||◌, ◌&&◌, false≢true}
@@ -14,7 +15,6 @@ use Rattle.numbers.proofs.Choices.{and_both}
 use Rattle.numbers.proofs.Integers.{zarith, by-test}
 use Rattle.terms.specs.Reply.{is, next}
 use Rattle.terms.specs.Refusals.{passed}
-use Rattle.terms.specs.declared.refusal.Checked.TheVariants.{Fine}
 use Rattle.records.specs.declared.day.DayRecord.{DayRecord}
 use Rattle.records.specs.declared.unit.UnitRecord.{UnitRecord}
 use Rattle.records.specs.Layouts.{behind, tiles, value_at, Entry, entry, unit_kind, interval_kind, is_unit, unit_length, interval_length, unit_lower, unit_upper, full_lower, full_upper, ends_table, unit_table, unit_at, unit_bytes, length_of}
@@ -107,7 +107,7 @@ module _ (s : List ℕ) (at : ℕ) (rest : List ℕ) (u : UnitRecord) (e : drop 
       ap (λ (v : UnitRecord). head_of s at v.kind (length_of v)) unit-read
       ∙ head_read s at u.kind (unit_bytes u) rest e (first-laid u.kind (unit_table u)) some (length_of u) (length-unit u)
 
-  pub unit-reads : (floor : ℕ) (day : DayRecord) → unit_faults u floor day ≡ Fine → unit_of s at floor day ≡ is u
+  pub unit-reads : (floor : ℕ) (day : DayRecord) → unit_faults u floor day ≡ Ok tt → unit_of s at floor day ≡ is u
   unfolding unit_of unit_fields_of next passed
   unit-reads floor day f = rw head (simp (unit-read, f))
 

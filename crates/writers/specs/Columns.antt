@@ -1,10 +1,10 @@
 -- "Ways in": a block's units as twelve columns, one for each field of the unit record, kind and ends last.
-use Rattle.std.specs.Prelude.{ℕ, zero, suc, ◌+◌, Bool, true, ◌&&◌, List, [], ◌∷◌, eqb, ℤ, pos, length, get_or}
+use Rattle.std.specs.Prelude.{ℕ, zero, suc, ◌+◌, Bool, true, ◌&&◌, List, [], ◌∷◌, eqb, ℤ, pos, length, get_or, Result}
 use Rattle.numbers.specs.Column.{column}
-use Rattle.terms.specs.declared.refusal.Checked.{Checked}
 use Rattle.records.specs.declared.unit.UnitRecord.{UnitRecord}
 use Rattle.records.specs.Layouts.{unit_with, with_ends}
 use Rattle.records.specs.Reading.{unit_in, value_faults}
+use Rattle.terms.specs.declared.refusal.Fault.{Fault}
 
 pub record Columns : Type 0 where
   pub number : List ℕ
@@ -107,5 +107,5 @@ floor_at c zero = 0
 floor_at c (suc i) = (row_of c i).number + 1
 
 -- the first fault of the unit of an index
-abbrev pub row_checks : Columns → ℕ → Checked
+abbrev pub row_checks : Columns → ℕ → Result Unit Fault
 row_checks c i = value_faults (row_of c i) (floor_at c i)

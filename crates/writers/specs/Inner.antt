@@ -1,21 +1,23 @@
 -- What inner functions ask of each other: no promise rests on it.
-use Rattle.std.specs.Prelude.{ℕ, ◌+◌, ◌≤◌, List, [], ◌∷◌, ◌++◌, ℤ}
+use Rattle.std.specs.Prelude.{◌≡◌, ℕ, ◌+◌, List, [], ◌∷◌, ◌++◌, length, ℤ}
 use Rattle.numbers.specs.Bytes.{bytes16, bytes32, bits32}
-use Rattle.terms.specs.Checks.{most_units}
 use Rattle.records.specs.declared.unit.UnitRecord.{UnitRecord}
 use Rattle.records.specs.Layouts.{u8, u16, i32, size}
-use Rattle.writers.specs.Columns.{Columns, count, others}
+use Rattle.writers.specs.Columns.{Columns, count}
 
--- each of some lengths is enough for so many units
-abbrev pub Enough : ℕ → List ℕ → Type 0
-Enough units [] = Unit
-Enough units (m ∷ ms) = (units ≤ m) × Enough units ms
-
--- the columns are long enough for so many units, no more than a group may have
-pub record Long (units : ℕ) (c : Columns) : Type 0 where
-  pub few : units ≤ most_units
-  pub number : units ≤ count c
-  pub others : Enough units (others c)
+-- columns of one length
+pub record Level (c : Columns) : Type 0 where
+  pub classes : length c.class ≡ count c
+  pub coincidences : length c.coincide ≡ count c
+  pub nominations : length c.nominated ≡ count c
+  pub ns : length c.n ≡ count c
+  pub pcs : length c.pc ≡ count c
+  pub downs : length c.step_down ≡ count c
+  pub ups : length c.step-up ≡ count c
+  pub minutes : length c.made ≡ count c
+  pub kinds : length c.kind ≡ count c
+  pub lowers : length c.lower ≡ count c
+  pub uppers : length c.upper ≡ count c
 
 -- how many bytes parts of a record have: a kind and a number, three fields of a byte each, four of signed kWh
 abbrev pub head_length : ℕ

@@ -5,3 +5,4 @@ pub mod Writing
 pub mod Results
 pub mod Trips
 pub mod Inner
+pub mod Units

@@ -1,12 +1,12 @@
 -- What the round trips speak of: the values that bytes hold by the layouts, and what a day asks of a block beyond what a writer does.
-use Rattle.std.specs.Prelude.{ℕ, ◌<◌, ◌≡◌, true, List}
+use Rattle.std.specs.Prelude.{ℕ, ◌<◌, ◌≡◌, true, List, Option}
 use Rattle.std.specs.Int.{w32}
 use Rattle.std.proofs.Common.{SFits}
+use Rattle.records.specs.declared.key.Key.{Key}
 use Rattle.records.specs.declared.day.DayRecord.{DayRecord}
 use Rattle.records.specs.declared.group.GroupRecord.{GroupRecord}
 use Rattle.records.specs.declared.group_result.GroupResult.{GroupResult}
 use Rattle.records.specs.declared.unit_result.UnitResult.{UnitResult}
-use Rattle.records.specs.declared.key.Last.{Last}
 use Rattle.records.specs.Layouts.{group_at}
 use Rattle.records.specs.Reading.{aged, follows, key_of, unit_in}
 use Rattle.writers.specs.Columns.{Columns, row_of, count}
@@ -18,7 +18,7 @@ pub record Values (g : GroupRecord) (c : Columns) (s : List ℕ) : Type 0 where
   pub unit : (i : ℕ) → i < count c → unit_in s i ≡ row_of c i
 
 -- a day takes the group next: what the group's checks ask of the day
-pub record Joins (g : GroupRecord) (day : DayRecord) (last : Last) : Type 0 where
+pub record Joins (g : GroupRecord) (day : DayRecord) (last : Option Key) : Type 0 where
   pub early : g.quarter < day.quarters
   pub above : follows last (key_of g) ≡ true
   pub fresh : aged day.run g.made day.position_limit ≡ true

@@ -1,9 +1,8 @@
 -- "Numbers given back", for the writers: a refusal writes nothing, and an accepted call writes its record and no byte of the room beyond it.
-use Rattle.std.specs.Prelude.{ℕ, zero, suc, ◌+◌, ◌≡◌, List, ◌++◌, leb, ltb, length, drop}
+use Rattle.std.specs.Prelude.{ℕ, zero, suc, ◌+◌, ◌≡◌, List, ◌++◌, leb, ltb, length, drop, Result}
 use Rattle.terms.specs.Reply.{Reply, is, refused, need, next}
-use Rattle.terms.specs.Refusals.{answer, first_fault}
+use Rattle.terms.specs.Refusals.{reply, first_fault}
 use Rattle.terms.specs.Checks.{unit_count}
-use Rattle.terms.specs.declared.refusal.Answer.{Answer}
 use Rattle.records.specs.declared.day.DayRecord.{DayRecord}
 use Rattle.records.specs.declared.group.GroupRecord.{GroupRecord}
 use Rattle.records.specs.declared.end.EndRecord.{EndRecord}
@@ -11,6 +10,7 @@ use Rattle.records.specs.Layouts.{day_bytes, day_length_of, group_length, group_
 use Rattle.records.specs.Reading.{permitted}
 use Rattle.writers.specs.Runs.{run}
 use Rattle.writers.specs.Columns.{Columns, row_of, count, even, row_checks}
+use Rattle.terms.specs.declared.refusal.Refusal.{Refusal}
 
 -- the room after a reply: the bytes and then the rest of it, or the room as it was
 unfoldable pub laid : Reply ℕ → List ℕ → List ℕ → List ℕ
@@ -18,8 +18,8 @@ laid (is length) bytes room = bytes ++ drop length room
 laid (refused number place) bytes room = room
 
 -- a writer's answer and its room are the right ones
-pub record Wrote (right : Reply ℕ) (bytes entry : List ℕ) (r : Answer) (exit : List ℕ) : Type 0 where
-  pub replied : answer r ≡ right
+pub record Wrote (right : Reply ℕ) (bytes entry : List ℕ) (r : Result ℕ Refusal) (exit : List ℕ) : Type 0 where
+  pub replied : reply r ≡ right
   pub room : exit ≡ laid right bytes entry
 
 -- 12 where the room is below the record, whose length is told else
@@ -30,14 +30,14 @@ room_for bytes room = need (leb bytes room) 12 0 (is bytes)
 unfoldable pub write_day_of : DayRecord → ℕ → Reply ℕ
 write_day_of d room = need (permitted d.quarters) 3 0 (room_for (day_length_of d) room)
 
-abbrev pub DayWritten : DayRecord → List ℕ → Answer → List ℕ → Type 0
+abbrev pub DayWritten : DayRecord → List ℕ → Result ℕ Refusal → List ℕ → Type 0
 DayWritten d entry r exit = Wrote (write_day_of d (length entry)) (day_bytes d) entry r exit
 
 -- end: 12
 unfoldable pub write_end_of : ℕ → Reply ℕ
 write_end_of room = room_for end_length room
 
-abbrev pub EndWritten : EndRecord → List ℕ → Answer → List ℕ → Type 0
+abbrev pub EndWritten : EndRecord → List ℕ → Result ℕ Refusal → List ℕ → Type 0
 EndWritten e entry r exit = Wrote (write_end_of (length entry)) (end_bytes e) entry r exit
 
 -- a group of so many units: 4, 5
@@ -74,5 +74,5 @@ units_bytes c units = run (λ (i : ℕ). unit_bytes (row_of c i)) units
 unfoldable pub block_bytes : GroupRecord → Columns → List ℕ
 block_bytes g c = group_bytes g ++ units_bytes c (count c)
 
-abbrev pub BlockWritten : GroupRecord → Columns → List ℕ → Answer → List ℕ → Type 0
+abbrev pub BlockWritten : GroupRecord → Columns → List ℕ → Result ℕ Refusal → List ℕ → Type 0
 BlockWritten g c entry r exit = Wrote (write_block_of g c (length entry)) (block_bytes (group_over g c) c) entry r exit

@@ -1,34 +1,22 @@
 // The writer of a block: one group record and its units, given as columns.
 ghost use Rattle.std.specs.Prelude.{◌≡◌, length};
-ghost use Rattle.terms.specs.Refusals.{answer};
+ghost use Rattle.terms.specs.Refusals.{reply};
 ghost use Rattle.records.specs.Layouts.{group_with};
-ghost use Rattle.writers.specs.Columns.{columns, same};
+ghost use Rattle.writers.specs.Columns.{columns};
+ghost use Rattle.writers.specs.Units.{listed};
 ghost use Rattle.writers.specs.Writing.{group_checks, write_block_of, BlockWritten};
 
-use crate::columns::{check_units, lay_units};
 use crate::lay::lay_group;
 use crate::refuse::refused;
+use crate::units::Units;
 use records::day::DayRecord;
 use records::group::GroupRecord;
-use terms::refusal::{Answer, Why};
-
-// Whether the lengths of the other columns are that of the first.
-fn are_same(number: usize, others: &[usize]) -> bool
-    ensures { result ≡ same number others.now }
-{
-    let mut i = 0;
-    while i < others.len() {
-        if others[i] != number {
-            return false;
-        }
-        i += 1;
-    }
-    true
-}
+use terms::refusal::{Refusal, Why};
 
 // The group's own fields, in their order, with the columns' count of units for its own.
-fn check_group(group: GroupRecord, units: usize) -> Answer
-    ensures { answer result ≡ group_checks group units }
+#[tactic(auto, unfolding(terms::specs::Reply::need, crate::specs::Writing::group_checks))]
+fn check_group(group: GroupRecord, units: usize) -> Result<usize, Refusal>
+    ensures { reply result ≡ group_checks group units }
 {
     if DayRecord::AUTUMN <= group.quarter {
         return refused(Why::Quarter);
@@ -36,61 +24,23 @@ fn check_group(group: GroupRecord, units: usize) -> Answer
     if !GroupRecord::permits(units) {
         return refused(Why::UnitCount);
     }
-    Answer::Is(units)
+    Ok(units)
 }
 
-// Everything that a block is refused for, in the writer's order; its length where it passes.
-fn check_block(
-    group: GroupRecord,
-    number: &[u16],
-    class: &[u8],
-    coincide: &[u8],
-    nominated: &[u8],
-    n: &[i32],
-    pc: &[i32],
-    step_down: &[i32],
-    step_up: &[i32],
-    made: &[u32],
-    kind: &[u8],
-    lower: &[i32],
-    upper: &[i32],
-    room: usize,
-) -> Answer
-    ensures { answer result ≡ write_block_of group (columns number.now class.now coincide.now nominated.now n.now pc.now step_down.now step_up.now made.now kind.now lower.now upper.now) room }
+// What is left to refuse of a block of level columns, in the writer's order; its length where it passes.
+fn check_block(group: GroupRecord, units: Units<'_>, room: usize) -> Result<usize, Refusal>
+    ensures { reply result ≡ write_block_of group (listed units.entry) room }
 {
-    let others = [
-        class.len(),
-        coincide.len(),
-        nominated.len(),
-        n.len(),
-        pc.len(),
-        step_down.len(),
-        step_up.len(),
-        made.len(),
-        kind.len(),
-        lower.len(),
-        upper.len(),
-    ];
-    if !are_same(number.len(), &others) {
-        return refused(Why::Columns);
-    }
-    let g = check_group(group, number.len());
-    let Answer::Is(_) = g else {
-        return g;
-    };
-    let u = check_units(
-        number, class, coincide, nominated, n, pc, step_down, step_up, made, kind, lower, upper,
-    );
-    let Answer::Is(bytes) = u else {
-        return u;
-    };
+    check_group(group, units.count())?;
+    let bytes = units.check()?;
     if room < bytes {
         return refused(Why::Room);
     }
-    u
+    Ok(bytes)
 }
 
 // A block in the room's first bytes, or the first refusal in the writer's order, a unit's at its index.
+// The columns are parameters, since C hands them over so (`write_block` of the ways in); they are one value from the first test on.
 pub fn write_block(
     brp: u16,
     zone: u8,
@@ -109,12 +59,10 @@ pub fn write_block(
     lower: &[i32],
     upper: &[i32],
     room: &mut [u8],
-) -> Answer
+) -> Result<usize, Refusal>
     ensures { BlockWritten (group_with brp zone quarter (length number.now) made) (columns number.now class.now coincide.now nominated.now n.now pc.now step_down.now step_up.now margins_made.now kind.now lower.now upper.now) room.old result room.new }
 {
-    let group = GroupRecord::new(brp, zone, quarter, 0, made);
-    let checked = check_block(
-        group,
+    let units = Units::level(
         number,
         class,
         coincide,
@@ -127,32 +75,14 @@ pub fn write_block(
         kind,
         lower,
         upper,
-        room.len(),
-    );
-    let Answer::Is(_) = checked else {
-        return checked;
-    };
-    let units = number.len();
+    )?;
+    let group = GroupRecord::new(brp, zone, quarter, 0, made);
+    let bytes = check_block(group, units, room.len())?;
     lay_group(
         room,
         0,
-        GroupRecord::new(brp, zone, quarter, units as u8, made),
+        GroupRecord::new(brp, zone, quarter, units.count() as u8, made),
     );
-    lay_units(
-        room,
-        number,
-        class,
-        coincide,
-        nominated,
-        n,
-        pc,
-        step_down,
-        step_up,
-        margins_made,
-        kind,
-        lower,
-        upper,
-        units,
-    );
-    checked
+    units.lay(room);
+    Ok(bytes)
 }

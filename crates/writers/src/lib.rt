@@ -6,3 +6,4 @@ mod columns;
 pub mod lay;
 mod refuse;
 pub mod single;
+mod units;

@@ -5,10 +5,10 @@ use crate::lay::{lay_day, lay_end};
 use crate::refuse::refused;
 use records::day::DayRecord;
 use records::end::EndRecord;
-use terms::refusal::{Answer, Why};
+use terms::refusal::{Refusal, Why};
 
 // A day record in the room's first bytes, where its quarters and the room pass.
-pub fn write_day(d: DayRecord, room: &mut [u8]) -> Answer
+pub fn write_day(d: DayRecord, room: &mut [u8]) -> Result<usize, Refusal>
     ensures { DayWritten d room.old result room.new }
 {
     if !DayRecord::permits(d.quarters) {
@@ -19,16 +19,16 @@ pub fn write_day(d: DayRecord, room: &mut [u8]) -> Answer
         return refused(Why::Room);
     }
     lay_day(room, 0, d);
-    Answer::Is(len)
+    Ok(len)
 }
 
 // An end record in the room's first bytes, with any count of groups: 12.
-pub fn write_end(groups: u32, room: &mut [u8]) -> Answer
+pub fn write_end(groups: u32, room: &mut [u8]) -> Result<usize, Refusal>
     ensures { EndWritten (record { groups = groups }) room.old result room.new }
 {
     if room.len() < EndRecord::LEN {
         return refused(Why::Room);
     }
     lay_end(room, 0, EndRecord::new(groups));
-    Answer::Is(EndRecord::LEN)
+    Ok(EndRecord::LEN)
 }

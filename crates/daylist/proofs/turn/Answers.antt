@@ -15,8 +15,8 @@ advanced-requires g c =
     let w = a.w in
     let o = c.in-Taken.ensures in
     let u : c.in-Taken.part.used ≤ length (take (w.end - w.from) (drop w.from a.input.now)) = used-inside _ _ _ _ o in
-    let v : c.in-Taken.part.written ≤ length (take (length a.output.now - w.full) (drop w.full a.output.now)) = written-inside _ _ _ _ o c.list_next-listed.auto.room in
-    (p, (omega (arith, p.order, length-take (w.end - w.from) (drop w.from a.input.now)), omega (arith, p.lines, c.requires.1.1.1, length-take (length a.output.now - w.full) (drop w.full a.output.now))))
+    let v : c.in-Taken.part.written ≤ length (take (65536 - w.full) (drop w.full a.output.now)) = written-inside _ _ _ _ o c.list_next.auto.room in
+    (p, (omega (arith, p.order, length-take (w.end - w.from) (drop w.from a.input.now)), omega (arith, p.lines, c.told-output, length-take (65536 - w.full) (drop w.full a.output.now))))
 
 pub refused-requires : goal.refused-requires
 refused-requires g c =
@@ -24,21 +24,20 @@ refused-requires g c =
     let p = c.requires.0 in
     let w = a.w in
     let o = c.in-Refused.ensures in
-    let v : c.in-Refused.stop.written ≤ length (take (length a.output.now - w.full) (drop w.full a.output.now)) = written-inside _ _ _ _ o c.list_next-listed.auto.room in
-    (p, omega (arith, p.lines, c.requires.1.1.1, length-take (length a.output.now - w.full) (drop w.full a.output.now)))
+    let v : c.in-Refused.stop.written ≤ length (take (65536 - w.full) (drop w.full a.output.now)) = written-inside _ _ _ _ o c.list_next.auto.room in
+    (p, omega (arith, p.lines, c.told-output, length-take (65536 - w.full) (drop w.full a.output.now)))
 
 pub waited-requires : goal.waited-requires
 waited-requires g c =
     let a = c.args in
-    let s = c.requires in
-    let o = c.in-Waits.ensures in
-    (s.0, (s.1.0, (s.1.1.0, (rw (silent a.w a.input.now a.output.now s.0 s.1.1.1 o refl) s.1.1.1, room-left a.w a.input.now a.output.now s.0 s.1.1.1 o s.1.1.0 refl))))
+    let p = c.requires.0 in
+    (p, (c.requires.1, room-left a.w a.input.now a.output.now p c.told-output c.in-Waits.ensures c.told-input refl))
 
 pub returns-in-Taken : goal.returns-in-Taken
 returns-in-Taken g c =
     let a = c.args in
     let p = c.requires.0 in
-    let long = c.requires.1.1.1 in
+    let long = c.told-output in
     let o = c.in-Taken.ensures in
     (lists _ (answered a.w a.input.now a.output.now p long o) c.advanced.ensures.0 refl (laid a.w a.input.now a.output.now p long o), c.advanced.ensures.1)
 
@@ -46,7 +45,7 @@ pub returns-in-Refused : goal.returns-in-Refused
 returns-in-Refused g c =
     let a = c.args in
     let p = c.requires.0 in
-    let long = c.requires.1.1.1 in
+    let long = c.told-output in
     let o = c.in-Refused.ensures in
     (stops _ _ _ (answered a.w a.input.now a.output.now p long o) c.refused.ensures.0 refl (laid a.w a.input.now a.output.now p long o), c.refused.ensures.1)
 
@@ -54,7 +53,7 @@ pub returns-in-Waits : goal.returns-in-Waits
 returns-in-Waits g c =
     let a = c.args in
     let p = c.requires.0 in
-    let long = c.requires.1.1.1 in
+    let long = c.told-output in
     let o = c.in-Waits.ensures in
     (reads (answered a.w a.input.now a.output.now p long o) c.waited.ensures.0 (silent a.w a.input.now a.output.now p long o refl), c.waited.ensures.1)
 
@@ -62,7 +61,7 @@ pub returns-in-Full : goal.returns-in-Full
 returns-in-Full g c =
     let a = c.args in
     let p = c.requires.0 in
-    let long = c.requires.1.1.1 in
+    let long = c.told-output in
     let o = c.in-Full.ensures in
     (writes (answered a.w a.input.now a.output.now p long o) c.flushed.ensures.0 refl (silent a.w a.input.now a.output.now p long o refl), c.flushed.ensures.1)
 
@@ -70,6 +69,6 @@ pub returns-in-Done : goal.returns-in-Done
 returns-in-Done g c =
     let a = c.args in
     let p = c.requires.0 in
-    let long = c.requires.1.1.1 in
+    let long = c.told-output in
     let o = c.in-Done.ensures in
     (ends (answered a.w a.input.now a.output.now p long o) c.stopped.ensures.0 refl (silent a.w a.input.now a.output.now p long o refl), c.stopped.ensures.1)

@@ -10,7 +10,6 @@ use Rattle.numbers.specs.Sum.{bit}
 use Rattle.terms.proofs.Considered.{considered-by}
 use Rattle.records.specs.Decoding.{unit_n0}
 use Rattle.records.proofs.Marks.{marked}
-use Rattle.decode.proofs.Units.{mark}
 use borrow.Author.Rules.{rules}
 use Rattle.decode.proofs.take_in.Goals as goal
 
@@ -35,7 +34,7 @@ returns c =
     record {
       told = sym passes;
       classes = λ _. refl;
-      marks = λ _. ap (set x.taken.now x.i) (mark c.is_implicit-implicit.result ∙ ap bit implied);
+      marks = λ _. ap (set x.taken.now x.i) (c.from.ensures ∙ ap bit implied);
       starts = λ _. ap (set x.n0.now x.i) (zn ∙ begun);
       downs = λ _. ap (set x.step_down.now x.i) (zd ∙ ap (λ m. m.step_down) c.margins-margins.ensures);
       ups = λ _. ap (set x.step_up.now x.i) (zu ∙ ap (λ m. m.step_up) c.margins-margins.ensures);

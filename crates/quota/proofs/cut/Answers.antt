@@ -1,8 +1,5 @@
--- `cut` meets its contract: where all is cut the sizes are the cuts, where nothing is left the marks are, and else what is dealt over the marks.
-use mathlib.Core.Path.{sym, ap, ◌∙◌}
-use native.Mathlib.Omega.{arith}
+use Rattle.std.proofs.Common.{sym, ap, ◌∙◌, arith}
 use Rattle.quota.specs.Quota.{cuts_of}
-use Rattle.quota.specs.Inner.{Sharing}
 use Rattle.quota.proofs.Marks.{total-small, sharing, all-cut, marked, places, none_left, all-dealt}
 use Rattle.quota.proofs.cut.Goals as goal
 
@@ -15,16 +12,14 @@ of-ratio-requires c = (omega (arith, c.requires.0.within, c.if-c-t.false), total
 pub returns-then-left-eq0 : goal.returns-then-left-eq0
 returns-then-left-eq0 c =
     let m = c.marks_into-left.ensures in
-    m.1 ∙ none_left (let shared : Sharing c.args.sizes.now c.of-ratio.result = sharing c.requires.0 c.of-ratio.ensures.1 c.of-ratio.ensures.2 in shared) (sym m.0 ∙ c.if-left-eq0.true) ∙ ap (cuts_of c.args.sizes.now) c.of-ratio.ensures.0
+    m.1 ∙ none_left (sharing c.of-ratio.result c.requires.0 c.of-ratio.ensures.1) (sym m.0 ∙ c.if-left-eq0.true) ∙ ap (cuts_of c.args.sizes.now) c.of-ratio.ensures.0
 
 pub bound-x-requires : goal.bound-x-requires
 bound-x-requires c =
     let m = c.marks_into-left.ensures in
-    (marked (let shared : Sharing c.args.sizes.now c.of-ratio.result = sharing c.requires.0 c.of-ratio.ensures.1 c.of-ratio.ensures.2 in shared) m.1 m.0 (omega (arith, c.if-left-eq0.false)), total-small c.requires.0, c.requires.2, places (let shared : Sharing c.args.sizes.now c.of-ratio.result = sharing c.requires.0 c.of-ratio.ensures.1 c.of-ratio.ensures.2 in shared) c.requires.1 m.1)
+    (marked (sharing c.of-ratio.result c.requires.0 c.of-ratio.ensures.1) m.1 m.0 (omega (arith, c.if-left-eq0.false)), total-small c.requires.0, places (sharing c.of-ratio.result c.requires.0 c.of-ratio.ensures.1) c.requires.1 m.1)
 
 pub returns : goal.returns
 returns c =
     let m = c.marks_into-left.ensures in
-    c.deal.ensures
-    ∙ all-dealt (let shared : Sharing c.args.sizes.now c.of-ratio.result = sharing c.requires.0 c.of-ratio.ensures.1 c.of-ratio.ensures.2 in shared) c.requires.1 _ m.1 m.0 c.bound-x.ensures
-    ∙ ap (cuts_of c.args.sizes.now) c.of-ratio.ensures.0
+    c.deal.ensures ∙ all-dealt (sharing c.of-ratio.result c.requires.0 c.of-ratio.ensures.1) c.requires.1 _ m.1 m.0 c.bound-x.ensures ∙ ap (cuts_of c.args.sizes.now) c.of-ratio.ensures.0

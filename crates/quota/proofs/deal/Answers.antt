@@ -1,21 +1,11 @@
--- `deal` meets its contract: it fills the column, and of it reads only the place that it fills next.
-use native.Mathlib.Omega.{arith}
-use mathlib.Core.Path.{◌≡◌, refl}
-use mir.Syntax.{w32}
-use mir.Val.{SFits}
-use mir.Facts.{to_z-of_z}
-use lib.ListN.{get_or}
+use Rattle.std.proofs.Common.{ℕ, get_or, length, refl, arith, rules}
 use Rattle.numbers.specs.Column.{at}
-use Rattle.numbers.proofs.Filling.{filled-start, filled_next, filled-turn}
+use Rattle.numbers.proofs.Updating.{updated}
 use Rattle.quota.specs.Inner.{dealt_at}
 use Rattle.quota.proofs.deal.Goals as goal
 
-pub loop-i-init : goal.loop-i-init
-loop-i-init c = filled-start _ _ _
-
-pub loop-i-preserved : goal.loop-i-preserved
-loop-i-preserved c =
-    let a = c.args in
-    let f : SFits w32 (at a.n1.now c.loop-i.i) = record { sfits = c.dealt_to-arg-1.given } in
-    let e : c.dealt_to.result ≡ dealt_at a.d a.ratio.t a.ratio.c a.x (at a.n1.now c.loop-i.i) (get_or c.loop-i.cuts c.loop-i.i 0) = simp to_z-of_z at c.dealt_to.ensures in
-    filled-turn c.loop-i.invariant refl 0 (rw (filled_next c.loop-i.invariant refl 0 (omega arith)) at e) (omega arith)
+pub returns : goal.returns
+returns c =
+    updated _ (λ (i : ℕ). dealt_at c.args.units.now.d c.args.ratio.t c.args.ratio.c c.args.x (at c.args.units.now.n1.now i) (get_or c.args.cuts.now i 0)) 0 (length c.args.cuts.now) c.args.cuts.now c.update.new.xs
+    refl (omega arith) c.update.ensures
+    (λ k y m p. search rules)

@@ -1,10 +1,6 @@
-use Prim.Native.Nat.{◌+◌, ◌-◌, ◌≤◌}
-use mathlib.Core.Path.{◌≡◌}
+use Rattle.std.proofs.Common.{◌≡◌, ◌≤◌}
 use Rattle.calendar.specs.Calendar.{days_of_months}
 use Rattle.calendar.proofs.days.months_by.Given as goal
 
-abbrev pub invariant-loop-next : goal.invariant-loop-next
-invariant-loop-next l = (l.next ≡ days_of_months l.year (l.months + 1)) × (days_of_months l.year l.months ≤ l.n)
-
-abbrev pub decreases-loop-next : goal.decreases-loop-next
-decreases-loop-next l = l.n + 1 - l.next
+abbrev pub invariant-loop-months : goal.invariant-loop-months
+invariant-loop-months l = (l.next ≡ days_of_months l.year l.months) × (l.next ≤ l.n)

@@ -1,16 +1,15 @@
--- `faults` meets its contract: each check counts for at most one.
-use mathlib.Core.Path.{◌≡◌}
-use borrow.Author.Rules.{rules}
-use mir.Syntax.{w32}
-use mir.Val.{to_z, of_z}
-use mir.Facts.{to_z-of_z}
-use Rattle.group.proofs.Amounts.{counted}
+use Rattle.std.proofs.Common.{arith, rules, w32, SFits}
+use Rattle.std.proofs.lemmas.Int.{to_z-of_z}
+use Rattle.group.specs.Inner.{faults_of}
 use Rattle.group.proofs.check.faults.Goals as goal
 
--- what is counted, of quantities as the machine reads them back
 pub returns : goal.returns
+unfolding faults_of
 returns c =
-    let m = c.args.m in
-    let d : to_z w32 (of_z w32 m.step_down) ≡ m.step_down = search rules in
-    let u : to_z w32 (of_z w32 m.step_up) ≡ m.step_up = search rules in
-    simp (d, u) (counted c.args.n0 m (simp (to_z-of_z c.ranges.n0) at c.beyond.ensures) (simp d at c.beyond-2.ensures) (simp u at c.beyond-3.ensures))
+    let n : SFits w32 c.args.n0 = search rules in
+    let down : SFits w32 c.args.m.step_down = search rules in
+    let up : SFits w32 c.args.m.step_up = search rules in
+    let a = simp to_z-of_z at c.beyond.ensures in
+    let b = simp to_z-of_z at c.beyond-2.ensures in
+    let d = simp to_z-of_z at c.beyond-3.ensures in
+    (omega (arith, a.0, b.0, d.0, c.crossed.ensures.0), omega (arith, a.1, b.1, d.1, c.crossed.ensures.1))

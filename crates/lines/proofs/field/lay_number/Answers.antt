@@ -12,6 +12,6 @@ returns c =
     let out = a.out.now in
     let many = length (decimal a.n) in
     let e = c.digit_count-count.ensures in
-    let front = one_byte out a.at a.front c.lay_u8.ensures in
-    let number = lays _ (a.at + 1) many (a.at + 1 + c.digit_count-count.result) (omega (arith, e)) (omega arith) c.lay_digits.ensures in
-    then out a.at 1 many (a.at + 1) (a.at + 1 + c.digit_count-count.result) (omega (arith, c.requires.0)) front number
+    let front = one_byte out a.at a.front c.lay-2.ensures in
+    let number = lays _ (a.at + 1) many (a.at + 1 + c.digit_count-count.result) (omega (arith, e)) (omega arith) (rw c.from.ensures at c.lay_digits.ensures) in
+    then out a.at 1 many (a.at + 1) (a.at + 1 + c.digit_count-count.result) (omega (arith, c.requires)) front number

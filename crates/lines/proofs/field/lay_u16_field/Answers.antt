@@ -12,10 +12,10 @@ pub lay_number-requires : goal.lay_number-requires
 lay_number-requires c =
     let n = c.args.n in
     let h : n < 100000 = omega arith in
-    (omega (arith, c.requires.0, no_more 4 n h), c.requires.1)
+    rw c.from.ensures (omega (arith, c.requires, no_more 4 n h))
 
 pub returns : goal.returns
 returns c =
     let n = c.args.n in
     let h : n < 100000 = omega arith in
-    within c.args.out.now c.args.at (1 + length (decimal n)) u16_field c.lay_number.result (omega (arith, no_more 4 n h)) c.lay_number.ensures
+    within c.args.out.now c.args.at (1 + length (decimal n)) u16_field c.lay_number.result (omega (arith, no_more 4 n h)) (rw c.from.ensures at c.lay_number.ensures)

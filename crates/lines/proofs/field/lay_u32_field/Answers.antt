@@ -12,7 +12,7 @@ pub lay_number-requires : goal.lay_number-requires
 lay_number-requires c =
     let n = c.args.n in
     let h : n < 10000000000 = omega arith in
-    (omega (arith, c.requires.0, no_more 9 n h), c.requires.1)
+    omega (arith, c.requires, no_more 9 n h)
 
 pub returns : goal.returns
 returns c =

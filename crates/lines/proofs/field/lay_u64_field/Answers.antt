@@ -25,6 +25,6 @@ returns c =
     let few = digits_of a.n (omega arith) in
     let count = c.long_count-count.result in
     let e = c.long_count-count.ensures in
-    let space = one_byte out a.at 32 c.lay_u8.ensures in
+    let space = one_byte out a.at 32 c.lay.ensures in
     let number = lays _ (a.at + 1) 20 (a.at + 1 + count) (omega arith) few c.lay_digits.ensures in
     then out a.at 1 20 (a.at + 1) (a.at + 1 + count) (omega arith) space number

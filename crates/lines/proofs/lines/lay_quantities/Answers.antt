@@ -6,16 +6,16 @@ use Rattle.lines.proofs.Same.{one_number}
 use Rattle.lines.proofs.Signs.{low_bits, high_bits}
 use Rattle.lines.proofs.lines.lay_quantities.Goals as goal
 
-pub returns-then-first-lt-FEW : goal.returns-then-first-lt-FEW
-returns-then-first-lt-FEW c =
-    let a = c.args in
+pub returns-then-first-lt-END : goal.returns-then-first-lt-END
+returns-then-first-lt-END c =
+    let four = c.args.four.now in
     let t = sym c.is_same.ensures ∙ c.if-is_same.true in
-    rw (one_number a.res.now a.from c.u32_at-first.result c.u32_at-first.ensures t (low_bits c.u32_at-first.result (omega (arith, c.if-first-lt-FEW.true)))) c.lay_four.ensures
+    rw (one_number four 0 c.read-first.result c.read-first.ensures t (low_bits c.read-first.result (omega (arith, c.if-first-lt-END.true)))) c.lay_four.ensures
 
 pub returns-then-first : goal.returns-then-first
 returns-then-first c =
-    let a = c.args in
+    let four = c.args.four.now in
     let t = sym c.is_same.ensures ∙ c.if-is_same.true in
-    let size = 4294967295 - c.u32_at-first.result + 1 in
-    let digits = high_bits c.u32_at-first.result size (omega (arith, c.if-first.true)) (omega arith) (omega arith) in
-    rw (one_number a.res.now a.from c.u32_at-first.result c.u32_at-first.ensures t digits) c.lay_four_below.ensures
+    let size = 4294967295 - c.read-first.result + 1 in
+    let digits = high_bits c.read-first.result size (omega (arith, c.if-first.true)) (omega arith) (omega arith) in
+    rw (one_number four 0 c.read-first.result c.read-first.ensures t digits) c.lay_four_below.ensures

@@ -14,5 +14,5 @@ returns c =
     let out = a.out.now in
     let count = byte_at a.res.now result_count.place in
     let h = c.requires.0.few in
-    let all = then out a.at longest_group_line (longest_unit_line * count) c.lay_group_line-units.result c.lay_unit_lines.result (omega (arith, c.requires.1)) c.lay_group_line-units.ensures c.lay_unit_lines.ensures in
+    let all = then out a.at longest_group_line (longest_unit_line * count) c.lay_group_line-units.result c.lay_unit_lines.result (omega (arith, c.requires.1)) c.lay_group_line-units.ensures (rw c.from.ensures at c.lay_unit_lines.ensures) in
     within out a.at (longest_group_line + longest_unit_line * count) longest_lines c.lay_unit_lines.result (omega (arith, all.few)) all

@@ -21,9 +21,9 @@ returns c =
     let e2 : f + 4 + 8 ≡ f + 12 = omega arith in
     let e3 : f + 4 + 12 ≡ f + 16 = omega arith in
     let four : List (List ℕ) = signed_decimal (signed32 (be32 r (f + 4))) ∷ signed_decimal (signed32 (be32 r (f + 8))) ∷ signed_decimal (signed32 (be32 r (f + 12))) ∷ signed_decimal (signed32 (be32 r (f + 16))) ∷ [] in
-    let number = rw c.u16_at-number.ensures at c.lay_u16_field-numbered.ensures in
-    let fields = rw (e1, e2, e3) at c.lay_quantities-steps.ensures in
-    let q1 = then out i 4 u16_field c.lay_word-word.result c.lay_u16_field-numbered.result (omega (arith, c.requires.1.1)) c.lay_word-word.ensures number in
-    let q2 = then out i (4 + u16_field) u8_field c.lay_u16_field-numbered.result c.lay_u8_field-reason.result (omega (arith, c.requires.1.1)) q1 c.lay_u8_field-reason.ensures in
-    let q3 = then-fields out i four (4 + u16_field + u8_field) (i32_field * 4) c.lay_u8_field-reason.result c.lay_quantities-steps.result (omega (arith, c.requires.1.1)) q2 fields in
-    then out i (4 + u16_field + u8_field + i32_field * 4) 1 c.lay_quantities-steps.result c.lay_feed.result (omega (arith, c.requires.1.1)) q3 c.lay_feed.ensures
+    let number = rw c.read-number.ensures at c.lay_u16_field-numbered.ensures in
+    let fields = rw (c.quantities_at.ensures, e1, e2, e3) at c.lay_quantities-steps.ensures in
+    let q1 = then out i 4 u16_field c.lay_word-word.result c.lay_u16_field-numbered.result (omega (arith, c.requires.1)) c.lay_word-word.ensures number in
+    let q2 = then out i (4 + u16_field) u8_field c.lay_u16_field-numbered.result c.lay_u8_field-reason.result (omega (arith, c.requires.1)) q1 c.lay_u8_field-reason.ensures in
+    let q3 = then-fields out i four (4 + u16_field + u8_field) (i32_field * 4) c.lay_u8_field-reason.result c.lay_quantities-steps.result (omega (arith, c.requires.1)) q2 fields in
+    then out i (4 + u16_field + u8_field + i32_field * 4) 1 c.lay_quantities-steps.result c.lay_feed.result (omega (arith, c.requires.1)) q3 c.lay_feed.ensures

@@ -7,10 +7,9 @@ use Rattle.lines.proofs.lines.lay_unit_lines.Goals as goal
 pub loop-i-init : goal.loop-i-init
 loop-i-init c =
     let a = c.args in
-    (omega arith, run-start a.out.now a.at (unit_line_at a.res.now) longest_unit_line)
+    run-start a.out.now a.at (unit_line_at a.res.now) longest_unit_line
 
 pub loop-i-preserved : goal.loop-i-preserved
 loop-i-preserved c =
-    let t = c.loop-i-test.true in
     let a = c.args in
-    (omega arith, run_more a.out.now a.at (unit_line_at a.res.now) longest_unit_line c.loop-i.i c.loop-i.here c.lay_unit_line-here.result (omega (arith, c.requires.1.1.1)) c.loop-i.invariant.1 c.lay_unit_line-here.ensures)
+    run_more a.out.now a.at (unit_line_at a.res.now) longest_unit_line c.loop-i.i c.loop-i.here c.lay_unit_line-here.result (omega (arith, c.requires.1.1)) c.loop-i.invariant c.lay_unit_line-here.ensures

@@ -3,28 +3,24 @@ use Prim.Native.Nat.{ℕ, ◌+◌, ◌/◌, ◌%◌}
 use mathlib.Core.Path.{◌≡◌, refl, ap, ◌∙◌}
 use mathlib.Core.List.{List, [], ◌∷◌}
 use native.Mathlib.Omega.{arith}
-use lib.ListN.{length, get_or}
+use lib.ListN.{get_or}
 use Rattle.numbers.specs.Bytes.{laid_at}
 use Rattle.numbers.specs.Decimal.{digit}
 use Rattle.numbers.proofs.Laid.{laid_next}
 use Rattle.lines.specs.Inner.{pair_of}
-use Rattle.lines.proofs.Pairs.{pair-count, pair-at}
+use Rattle.lines.proofs.Pairs.{pair-at, pairs_are}
+use Rattle.lines.specs.declared.table.TheConstants.{PAIRS}
 use Rattle.lines.proofs.number.lay_pair.Goals as goal
-
-pub bounds-pairs-k : goal.bounds-pairs-k
-bounds-pairs-k c =
-    let e : length c.args.pairs.now ≡ 100 = ap length c.requires.1.1 ∙ pair-count in
-    omega (arith, c.requires.0)
 
 pub returns : goal.returns
 returns c =
     let a = c.args in
     let k = a.k in
     let out = a.out.now in
-    let v = get_or a.pairs.now k 0 in
-    let e : v ≡ pair_of k = ap (λ (l : List ℕ). get_or l k 0) c.requires.1.1 ∙ pair-at k c.requires.0 in
+    let v = get_or PAIRS k 0 in
+    let e : v ≡ pair_of k = ap (λ (l : List ℕ). get_or l k 0) pairs_are ∙ pair-at k c.requires.0 in
     let front : v % 256 ≡ digit (k / 10) = omega (arith, c.requires.0) in
     let back : v / 256 ≡ digit (k % 10) = omega (arith, c.requires.0) in
-    laid_next out a.at (v % 256 ∷ []) (a.at + 1) (v / 256 ∷ []) c.lay_u8.ensures c.lay_u8-2.ensures refl (omega (arith, c.requires.1.0))
+    laid_next out a.at (v % 256 ∷ []) (a.at + 1) (v / 256 ∷ []) c.lay.ensures c.lay-2.ensures refl (omega (arith, c.requires.1))
     ∙ ap (λ (x : ℕ). laid_at out a.at (x ∷ v / 256 ∷ [])) front
     ∙ ap (λ (x : ℕ). laid_at out a.at (digit (k / 10) ∷ x ∷ [])) back

@@ -1,4 +1,3 @@
-use Prim.Native.Nat.{◌≤◌, ◌-◌}
 use mathlib.Core.Path.{◌≡◌}
 use mathlib.Core.List.{◌++◌}
 use lib.ListN.{length, drop}
@@ -7,7 +6,4 @@ use Rattle.making.specs.Spot.{shown_at}
 use Rattle.making.proofs.spot.show.Given as goal
 
 abbrev pub invariant-loop-i : goal.invariant-loop-i
-invariant-loop-i l = (l.i ≤ l.count) × ((length l.room ≡ length l.initial.room) × (l.room ≡ column l.i (shown_at l.word) ++ drop l.i l.initial.room))
-
-abbrev pub decreases-loop-i : goal.decreases-loop-i
-decreases-loop-i l = l.count - l.i
+invariant-loop-i l = (length l.room ≡ length l.initial.room) × (l.room ≡ column l.i (shown_at l.word) ++ drop l.i l.initial.room)

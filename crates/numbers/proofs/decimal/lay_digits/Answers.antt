@@ -21,9 +21,9 @@ overflow_sub-last-in-loop-rest c =
 pub loop-rest-preserved : goal.loop-rest-preserved
 loop-rest-preserved c =
     let a = c.args in
-    turn a.n a.at a.out.now c.loop-rest.last c.loop-rest.rest c.loop-rest.invariant c.loop-rest-test.true c.lay_u8.ensures
+    turn a.n a.at a.out.now c.loop-rest.last c.loop-rest.rest c.loop-rest.invariant c.loop-rest-test.true c.lay.ensures
 
 pub returns : goal.returns
 returns c =
     let a = c.args in
-    end a.n a.at a.out.now c.loop-rest.last c.loop-rest.rest c.loop-rest.invariant c.loop-rest-test.false c.lay_u8-2.ensures
+    end a.n a.at a.out.now c.loop-rest.last c.loop-rest.rest c.loop-rest.invariant c.loop-rest-test.false c.lay-2.ensures

@@ -1,27 +1,16 @@
--- `sum` meets its contract: after i turns the total is the sum of the first i entries, within 1,000,000 for each.
-use Rattle.std.proofs.Common.{take, refl, sym, arith, to_z-of_z, w32, SFits}
-use lib.IntN.{◌+ℤ◌}
-use Rattle.numbers.specs.Sum.{sum_z}
-use Rattle.numbers.specs.Column.{at}
-use Rattle.numbers.proofs.Integers.{zarith, plus}
-use Rattle.numbers.proofs.Sums.{sum_more, sum-within}
+-- `sum` meets its contract: after so many turns the total is the sum of so many entries, within 1,000,000 for each.
+use Rattle.std.proofs.Common.{arith}
+use Rattle.std.proofs.lemmas.Int.{ints, to_z-of_z}
+use Rattle.std.proofs.lemmas.List.Sums.{fold_more}
+use Rattle.numbers.proofs.Sums.{sum_folded}
 use Rattle.numbers.proofs.signed.sum.Goals as goal
 
-pub loop-i-init : goal.loop-i-init
-unfolding sum_z
-loop-i-init c = (omega arith, refl)
-
 pub overflow_add-total : goal.overflow_add-total
-overflow_add-total c = let l = c.loop-i in
-    let s = c.args.s.now in
-    let f : SFits w32 (at s l.i) = record { sfits = c.total-1.given } in
-    let g : SFits w32 (sum_z (take l.i s)) = omega (zarith, sum-within 1000000 s c.requires.1 l.i) in
-    rw l.invariant.1 (simp to_z-of_z (omega (zarith, plus (sum_z (take l.i s)) (at s l.i), c.requires.1 l.i, sum-within 1000000 s c.requires.1 l.i)))
+overflow_add-total c = omega (arith, ints, (c.requires.1 c.loop-z.z-index).size)
 
-pub loop-i-preserved : goal.loop-i-preserved
-loop-i-preserved c = let l = c.loop-i in
-    let s = c.args.s.now in
-    let f : SFits w32 (at s l.i) = record { sfits = c.total-1.given } in
-    let g : SFits w32 (sum_z (take l.i s)) = omega (zarith, sum-within 1000000 s c.requires.1 l.i) in
-    let h : SFits w32 (sum_z (take l.i s) +ℤ at s l.i) = omega (zarith, plus (sum_z (take l.i s)) (at s l.i), c.requires.1 l.i, sum-within 1000000 s c.requires.1 l.i) in
-    (omega arith, rw l.invariant.1 (simp to_z-of_z (sym (sum_more s l.i (omega arith)))))
+pub loop-z-preserved : goal.loop-z-preserved
+loop-z-preserved c =
+    (grind (arith, ints, to_z-of_z, fold_more, (c.requires.1 c.loop-z.z-index).size), omega (arith, ints, (c.requires.1 c.loop-z.z-index).size))
+
+pub returns : goal.returns
+returns c = sum_folded c.args.s.now c.loop-z.z-index _ (omega arith) c.loop-z.invariant.0

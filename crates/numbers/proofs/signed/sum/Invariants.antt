@@ -1,9 +1,6 @@
-use Rattle.std.proofs.Common.{◌≡◌, ◌-◌, ◌≤◌, length, take}
-use Rattle.numbers.specs.Sum.{sum_z}
+use Rattle.std.proofs.Common.{◌≡◌, ◌*◌, ◌≤◌, take, pos, ◌+ℤ◌}
+use Rattle.std.specs.Prelude.{fold, unsigned_abs}
 use Rattle.numbers.proofs.signed.sum.Given as goal
 
-abbrev pub invariant-loop-i : goal.invariant-loop-i
-invariant-loop-i l = (l.i ≤ length l.s) × (l.total ≡ (sum_z (take l.i l.s)))
-
-abbrev pub decreases-loop-i : goal.decreases-loop-i
-decreases-loop-i l = length l.s - l.i
+abbrev pub invariant-loop-z : goal.invariant-loop-z
+invariant-loop-z l = (l.total ≡ fold ◌+ℤ◌ (pos 0) (take l.z-index l.s)) × (unsigned_abs l.total ≤ 1000000 * l.z-index)

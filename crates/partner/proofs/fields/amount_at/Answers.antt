@@ -1,50 +1,47 @@
 -- The whole MWh, then the decimals; what neither refuses is the amount of both.
-use mathlib.Core.Path.{sym, ap, ◌∙◌}
-use native.Mathlib.Omega.{arith}
+use Rattle.std.proofs.Common.{◌≡◌, sym, ◌∙◌, arith, rules, Err}
 use Rattle.partner.specs.Form.{numeral_of}
-use Rattle.partner.specs.Inner.{mwh_cap, capped, held_reply}
+use Rattle.partner.specs.Inner.{mwh_cap, capped}
 use Rattle.partner.proofs.Amounts.{mapped-refused, whole, numeral-there, amount-refused, amount-wrong, amount-right}
-use Rattle.partner.proofs.Capped.{least-most}
+use Rattle.partner.proofs.Decimals.{told-right}
 use Rattle.partner.proofs.fields.amount_at.Goals as goal
+
+pub returns-in_err-mwh : goal.returns-in_err-mwh
+returns-in_err-mwh c =
+    let a = c.args in
+    let s = a.s.now in
+    let e : c.from_residual.result ≡ Err c.in_err-mwh.field-0.0 = search rules in
+    rw e (sym (amount-refused s a.at (mapped-refused (capped mwh_cap) (numeral_of s a.at 44) (sym c.in_err-mwh.ensures))))
+
+pub decimals_at-requires : goal.decimals_at-requires
+decimals_at-requires c =
+    let a = c.args in
+    let s = a.s.now in
+    let w = whole s a.at 44 mwh_cap (sym c.in_ok-mwh.ensures) in
+    omega (arith, w.next, numeral-there s a.at 44 w.one (omega arith) w.read)
 
 pub returns-in_default : goal.returns-in_default
 returns-in_default c =
     let a = c.args in
     let s = a.s.now in
-    let e = sym c.numeral_at-answer.ensures ∙ ap held_reply c.in_default.is in
-    rw c.in_default.is (sym (amount-refused s a.at (mapped-refused (capped mwh_cap) (numeral_of s a.at 44) e)))
-
-pub decimals_at-part-requires : goal.decimals_at-part-requires
-decimals_at-part-requires c =
-    let a = c.args in
-    let s = a.s.now in
-    let w = whole s a.at 44 mwh_cap (sym c.numeral_at-answer.ensures ∙ ap held_reply c.in-Is.is) in
-    omega (arith, w.next, numeral-there s a.at 44 w.one (omega arith) w.read)
-
-pub returns-then-part-gt999 : goal.returns-then-part-gt999
-returns-then-part-gt999 c =
-    let a = c.args in
-    let s = a.s.now in
-    let w = whole s a.at 44 mwh_cap (sym c.numeral_at-answer.ensures ∙ ap held_reply c.in-Is.is) in
-    sym (amount-wrong s a.at _ w (rw c.decimals_at-part.ensures at c.if-part-gt999.true))
+    let w = whole s a.at 44 mwh_cap (sym c.in_ok-mwh.ensures) in
+    rw c.malformed.ensures (sym (amount-wrong s a.at _ w (sym c.decimals_at.ensures ∙ c.in_default.is)))
 
 pub overflow_mul-result : goal.overflow_mul-result
 overflow_mul-result c =
     let a = c.args in
-    let s = a.s.now in
-    let w = whole s a.at 44 mwh_cap (sym c.numeral_at-answer.ensures ∙ ap held_reply c.in-Is.is) in
-    omega (arith, w.value, least-most mwh_cap w.one.value)
+    omega (arith, (whole a.s.now a.at 44 mwh_cap (sym c.in_ok-mwh.ensures)).value)
 
 pub overflow_add-result : goal.overflow_add-result
 overflow_add-result c =
     let a = c.args in
     let s = a.s.now in
-    let w = whole s a.at 44 mwh_cap (sym c.numeral_at-answer.ensures ∙ ap held_reply c.in-Is.is) in
-    omega (arith, w.value, least-most mwh_cap w.one.value)
+    let w = whole s a.at 44 mwh_cap (sym c.in_ok-mwh.ensures) in
+    omega (arith, w.value, (told-right s c.in_ok-mwh.mwh.next (sym c.decimals_at.ensures ∙ c.in-Some.is)).1.1)
 
 pub returns : goal.returns
 returns c =
     let a = c.args in
     let s = a.s.now in
-    let w = whole s a.at 44 mwh_cap (sym c.numeral_at-answer.ensures ∙ ap held_reply c.in-Is.is) in
-    rw c.decimals_at-part.ensures (sym (amount-right s a.at _ w (rw c.decimals_at-part.ensures at c.if-part-gt999.false)))
+    let w = whole s a.at 44 mwh_cap (sym c.in_ok-mwh.ensures) in
+    sym (amount-right s a.at _ w (sym c.decimals_at.ensures ∙ c.in-Some.is))

@@ -1,18 +1,12 @@
 -- `lay_line` meets its contract: each part where the one before it ends.
-use native.Mathlib.Omega.{arith}
-use borrow.Author.Rules.{rules}
-use Rattle.partner.proofs.Back.{Back}
-use Rattle.partner.proofs.Lays.{line-parts, line-laid}
+use Rattle.std.proofs.Common.{◌≡◌, rules, to_z, of_z, w32}
+use Rattle.partner.proofs.Lays.{line-laid}
 use Rattle.partner.proofs.lay.lay_line.Goals as goal
 
-pub lay_numbers-n-requires : goal.lay_numbers-n-requires
-lay_numbers-n-requires c = omega (arith, c.requires, line-parts c.args.l)
-
-pub lay_quantity-margins-requires : goal.lay_quantity-margins-requires
-lay_quantity-margins-requires c = rw (let back : Back c.args.l = search rules in back).n (omega (arith, c.requires, line-parts c.args.l, c.lay_numbers-n.ensures.after))
-
-pub lay_margins-requires : goal.lay_margins-requires
-lay_margins-requires c = omega (arith, c.requires, line-parts c.args.l, c.lay_numbers-n.ensures.after, (rw (let back : Back c.args.l = search rules in back).n at c.lay_quantity-margins.ensures).after)
-
 pub returns : goal.returns
-returns c = line-laid c.args.room.now c.args.l c.requires c.lay_numbers-n.ensures (rw (let back : Back c.args.l = search rules in back).n at c.lay_quantity-margins.ensures) c.lay_margins.ensures
+returns c =
+    let l = c.args.l in
+    let n : to_z w32 (of_z w32 l.n.0) ≡ l.n.0 = search rules in
+    let down : to_z w32 (of_z w32 l.margins.step_down) ≡ l.margins.step_down = search rules in
+    let up : to_z w32 (of_z w32 l.margins.step_up) ≡ l.margins.step_up = search rules in
+    line-laid l c.requires (rw c.from.ensures at c.lay_numeral-quarter.ensures) (rw c.from-2.ensures at c.lay_numeral-n.ensures) (rw n at c.lay_quantity-step_down.ensures) (rw down at c.lay_quantity-step_up.ensures) (rw up at c.lay_quantity.ensures)

@@ -15,20 +15,20 @@ returns-in_default c = rw (← c.marks.ensures, c.in_default.is)
 pub returns-in_default-position : goal.returns-in_default-position
 unfolding marks_pass is_fine
 returns-in_default-position c =
-    let zp = (let pc_back : to_z w32 (of_z w32 c.args.u.pc.0) ≡ c.args.u.pc.0 = search rules in pc_back) in
+    let zp : to_z w32 (of_z w32 c.args.u.pc.0) ≡ c.args.u.pc.0 = search rules in
     let q = out_of_range zp F.Pc c.position.ensures c.in_default-position.is in
-    rw (← c.marks.ensures, c.in-Fine.is, q)
+    rw (← c.marks.ensures, c.in-Ok.is, q)
 
-pub returns-then-not-is_aged : goal.returns-then-not-is_aged
+pub returns-else-is_aged : goal.returns-else-is_aged
 unfolding marks_pass is_fine
-returns-then-not-is_aged c =
-    let zp = (let pc_back : to_z w32 (of_z w32 c.args.u.pc.0) ≡ c.args.u.pc.0 = search rules in pc_back) in
-    let q = in-range zp F.Pc c.position.ensures c.in-Fine-position.is in
-    rw (← c.marks.ensures, c.in-Fine.is, q, sym c.is_aged.ensures ∙ c.if-not-is_aged.true)
+returns-else-is_aged c =
+    let zp : to_z w32 (of_z w32 c.args.u.pc.0) ≡ c.args.u.pc.0 = search rules in
+    let q = in-range zp F.Pc c.position.ensures c.in-Ok-position.is in
+    rw (← c.marks.ensures, c.in-Ok.is, q, sym c.is_aged.ensures ∙ c.if-is_aged.false) c.if-is_aged.false
 
-pub returns : goal.returns
+pub returns-then-is_aged : goal.returns-then-is_aged
 unfolding marks_pass is_fine
-returns c =
-    let zp = (let pc_back : to_z w32 (of_z w32 c.args.u.pc.0) ≡ c.args.u.pc.0 = search rules in pc_back) in
-    let q = in-range zp F.Pc c.position.ensures c.in-Fine-position.is in
-    rw (← c.marks.ensures, c.in-Fine.is, q, sym c.is_aged.ensures ∙ c.if-not-is_aged.false) c.ends_pass.ensures
+returns-then-is_aged c =
+    let zp : to_z w32 (of_z w32 c.args.u.pc.0) ≡ c.args.u.pc.0 = search rules in
+    let q = in-range zp F.Pc c.position.ensures c.in-Ok-position.is in
+    rw (← c.marks.ensures, c.in-Ok.is, q, sym c.is_aged.ensures ∙ c.if-is_aged.true) c.ends_pass.ensures

@@ -1,27 +1,18 @@
 -- By whether the minute has a moment.
-use Prim.Native.Nat.{◌+◌}
-use mathlib.Core.Path.{sym, ◌∙◌}
-use native.Mathlib.Omega.{arith}
-use Rattle.shown.specs.Shown.{minute_shown}
+use Rattle.std.proofs.Common.{sym, ◌∙◌, arith}
+use Rattle.shown.specs.Shown.{date_word, moment_word, minute_shown}
 use Rattle.lines.specs.Lines.{u32_field}
-use Rattle.lines.proofs.Parts.{then, one_byte, within}
-use Rattle.shown.proofs.Few.{few-shown}
-use borrow.Author.Rules.{rules}
+use Rattle.lines.proofs.Parts.{within}
+use Rattle.shown.proofs.Few.{few_shown}
 use Rattle.shown.proofs.words.lay_minute.Goals as goal
 
-pub lay_moment-requires : goal.lay_moment-requires
-lay_moment-requires c = (few-shown c.args.minute c.in-At.m (sym c.moment_of-shown.ensures ∙ c.in-At.is), search rules)
+pub moment_word-requires : goal.moment_word-requires
+moment_word-requires c = few_shown c.args.minute c.in-Some.m (sym c.moment_of.ensures ∙ c.in-Some.is)
 
-pub returns-in-At : goal.returns-in-At
-unfolding minute_shown
-returns-in-At c =
-    let a = c.args in
-    let out = a.out.now in
-    let one = one_byte out a.at 32 c.lay_u8.ensures in
-    rw (sym c.moment_of-shown.ensures ∙ c.in-At.is) (then out a.at 1 17 (a.at + 1) c.lay_moment.result (omega (arith, c.requires)) one c.lay_moment.ensures)
+pub returns-in-Some : goal.returns-in-Some
+unfolding minute_shown moment_word date_word
+returns-in-Some c = rw (sym c.moment_of.ensures ∙ c.in-Some.is) (rw c.moment_word.ensures at c.lay_field.ensures)
 
-pub returns-in-Later : goal.returns-in-Later
+pub returns-in-None : goal.returns-in-None
 unfolding minute_shown
-returns-in-Later c =
-    let a = c.args in
-    rw (sym c.moment_of-shown.ensures ∙ c.in-Later.is) (within a.out.now a.at u32_field 18 c.lay_plain.result (omega (arith, c.lay_plain.ensures.few)) c.lay_plain.ensures)
+returns-in-None c = rw (sym c.moment_of.ensures ∙ c.in-None.is) (within c.args.out.now c.args.at u32_field 18 c.lay_u32_field.result (omega (arith, c.lay_u32_field.ensures.few)) c.lay_u32_field.ensures)

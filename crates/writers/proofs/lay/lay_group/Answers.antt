@@ -13,4 +13,4 @@ returns c =
     let l = c.args.room.now in
     let i = c.args.at in
     let e = laid_next l i _ _ _ c.lay_head.ensures c.lay_three.ensures refl (omega arith) in
-    laid_next l i _ _ _ e c.lay_u32.ensures refl (omega arith)
+    laid_next l i _ _ _ e c.lay.ensures refl (omega arith)

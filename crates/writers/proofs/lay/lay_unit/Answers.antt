@@ -25,8 +25,8 @@ returns-then-u-eq-INTERVAL_KIND c =
     let h = (let fits : c.args.at + interval_length ≤ length c.args.room.now = rw (let own : eqb c.args.u.kind interval_kind ≡ true = eq-eqb _ _ c.if-u-eq-INTERVAL_KIND.true in own) at c.requires in fits) in
     let fl : SFits w32 u.lower = search rules in
     let fu : SFits w32 u.upper = search rules in
-    let e = laid_next l i _ _ _ c.lay_body.ensures (simp to_z-of_z at c.lay_i32.ensures) refl (omega arith) in
-    rw (let own : eqb c.args.u.kind interval_kind ≡ true = eq-eqb _ _ c.if-u-eq-INTERVAL_KIND.true in own) (laid_next l i _ _ _ e (simp to_z-of_z at c.lay_i32-then-u-eq-INTERVAL_KIND.ensures) refl (omega arith))
+    let e = laid_next l i _ _ _ c.lay_body.ensures (simp to_z-of_z at c.lay.ensures) refl (omega arith) in
+    rw (let own : eqb c.args.u.kind interval_kind ≡ true = eq-eqb _ _ c.if-u-eq-INTERVAL_KIND.true in own) (laid_next l i _ _ _ e (simp to_z-of_z at c.lay-then-u-eq-INTERVAL_KIND.ensures) refl (omega arith))
 
 pub returns-else-u-eq-INTERVAL_KIND : goal.returns-else-u-eq-INTERVAL_KIND
 unfolding unit_bytes body_bytes quantities behind bytes32 bytes16

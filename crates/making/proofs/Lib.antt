@@ -1,2 +1,0 @@
--- Laws of the making of a day.
-pub mod Others

@@ -1,7 +1,0 @@
--- The value is at most the largest of its width.
-use Rattle.text.specs.Fields.{u8_at}
-use Rattle.text.proofs.fields.u8_at.Goals as goal
-
-pub returns : goal.returns
-unfolding u8_at
-returns c = rw (← c.unsigned_at-n.ensures.0)
