@@ -8,6 +8,7 @@ never too little; and a check that misses what was left out tells of no fact in 
 
 import functools
 import re
+import sys
 
 import calls
 import mutate
@@ -56,6 +57,10 @@ class Crate:
                 if region.function:
                     self.functions[region.function.name] = Piece(region)
         self.laws = {path.stem: path.read_text() for path in (self.place / "proofs").glob("*.antt") if path.stem != "Lib"}
+        answers = {str(path.parent.relative_to(self.place)) for path in (self.place / "proofs").glob("*/**/*.antt")}
+        strays = answers - {one.proof for one in self.functions.values()}
+        if strays:
+            sys.exit(f"tests/parts.py: of no function of {crate} as it is read here: {', '.join(sorted(strays))}")
 
     def files_of(self, function):
         """The files of a function's proof, by their paths in the crate."""

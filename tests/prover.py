@@ -33,6 +33,8 @@ NAMING = ("that can be named from here", "is not in scope", "was not admitted", 
 UNPROVED = (": it is not proved that ", "`search` did not prove ")
 # An open goal, told by its place in the sources, and a function from its attributes to its end.
 OPEN = re.compile(r"^note: (\S*/(\w+)/src/(\w+)\.rt):(\d+):\d+: (it is not proved that .*)$", re.M)
+# A type where it is declared: of its methods the prover speaks as of that module's, wherever their impl stands.
+DECLARED = re.compile(r"^(?:pub )?(?:struct|enum) (\w+)", re.M)
 FUNCTION = re.compile(r"^(?: *#\[.*\]\n)*( *)(?:#\[.*\] )?(?:pub )?(?:extern \"C\" )?fn (\w+)(?:.*\n)+?\1\}$", re.M)
 REFUSED, PROVED, REJECTED, UNTOLD = "refused", "still proved", "does not compile", "could not tell"
 
@@ -114,14 +116,30 @@ class Prover:
 
 def named(goal):
     """What is said of an open goal, as a line of the function that stands there, or else as an error at no function's place."""
-    path, crate, module, line, what = goal.groups()
+    path, crate, _, line, what = goal.groups()
     text = pathlib.Path(path).read_text()
     for one in FUNCTION.finditer(text):
         if text.count("\n", 0, one.start()) < int(line) <= text.count("\n", 0, one.end()) + 1:
             kind = KIND.findall(text, 0, one.start())[-1:] if one.group(1) else []
-            name = [crate] + [module] * (module not in ("lib", "main")) + kind + [one.group(2)]
-            return f"fn {'::'.join(name)}: {what}"
+            return f"fn {'::'.join([crate, *module_path(pathlib.Path(path), kind), *kind, one.group(2)])}: {what}"
     return f"{path}:{line}: error: {what}"
+
+
+@functools.lru_cache(None)
+def declaring(source):
+    """The types that a crate's sources declare, each with the modules that do."""
+    found = {}
+    for path in sorted(source.glob("*.rt")):
+        for kind in DECLARED.findall(path.read_text()):
+            found.setdefault(kind, []).append(path.stem)
+    return found
+
+
+def module_path(path, kind):
+    """The module of a function, from the file that it stands in and the type that it is a method of, if it is of one."""
+    declared = declaring(path.parent).get(kind[0], []) if kind else []
+    module = declared[0] if declared and path.stem not in declared else path.stem
+    return [module] * (module not in ("lib", "main"))
 
 
 class Seeds:
@@ -246,7 +264,8 @@ class Function:
     """A function's place in its crate: its name, the folder of its proof, and the lines of its body."""
 
     def __init__(self, region):
-        path = [region.path.stem] * (region.path.stem not in ("lib", "main")) + region.name.split("::")
+        *kind, short = region.name.split("::")
+        path = [*module_path(region.path, kind), *kind, short]
         self.name = "::".join([region.crate, *path])
         self.proof = "/".join(["proofs", *path])
         self.source = re.compile(rf"/src/{re.escape(region.path.name)}:(\d+):")
