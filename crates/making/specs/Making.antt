@@ -1,5 +1,5 @@
 -- The making of a day, line by line (docs/TEXT.md): what a line makes where it comes, and what lies in the room then.
-use Rattle.std.specs.Prelude.{ℕ, ◌+◌, ◌-◌, ◌≡◌, Bool, true, false, not, List, leb, ltb, length, Option, Some, None, Result, Ok, Err}
+use Rattle.std.specs.Prelude.{ℕ, ◌+◌, ◌-◌, ◌≡◌, Bool, true, false, not, ◌||◌, List, eqb, leb, ltb, length, Option, Some, None, Result, Ok, Err}
 use Rattle.numbers.specs.Bytes.{laid_at}
 use Rattle.numbers.specs.Choice.{pick}
 use Rattle.terms.specs.Reply.{Reply, is, refused}
@@ -11,7 +11,7 @@ use Rattle.records.specs.declared.day.DayRecord.{DayRecord}
 use Rattle.records.specs.declared.group.GroupRecord.{GroupRecord}
 use Rattle.records.specs.declared.unit.UnitRecord.{UnitRecord}
 use Rattle.records.specs.declared.end.EndRecord.{EndRecord}
-use Rattle.records.specs.Layouts.{day_bytes, group_length, group_bytes, unit_bytes, length_of, end_bytes}
+use Rattle.records.specs.Layouts.{day_kind, day_bytes, group_kind, group_length, group_bytes, unit_kind, unit_bytes, length_of, end_kind, end_bytes}
 use Rattle.terms.specs.Checks.{unit_count}
 use Rattle.records.specs.Reading.{value_faults}
 use Rattle.writers.specs.Writing.{laid, write_day_of, write_end_of}
@@ -122,20 +122,18 @@ unit_next Between u line room = turn (refuses 2 line (Came K.Unit)) room
 unit_next (Within b) u line room = unit_turn b u line room
 unit_next Over u line room = turn (refuses 2 line (Came K.Unit)) room
 
+-- ---- the number of a kind, which its record begins with
+abbrev pub kind_number : Kind → ℕ
+kind_number K.Day = day_kind
+kind_number K.Group = group_kind
+kind_number K.Unit = unit_kind
+kind_number K.End = end_kind
+
 -- ---- lines: a DAY first and only first, a UNIT where one is due and nowhere else, nothing after END
-abbrev pub is_due : Making → Kind → Bool
-is_due Opening K.Day = true
-is_due Opening K.Group = false
-is_due Opening K.Unit = false
-is_due Opening K.End = false
-is_due Between K.Day = false
-is_due Between K.Group = true
-is_due Between K.Unit = false
-is_due Between K.End = true
-is_due (Within b) K.Day = false
-is_due (Within b) K.Group = false
-is_due (Within b) K.Unit = true
-is_due (Within b) K.End = false
+abbrev pub is_due : Making → ℕ → Bool
+is_due Opening kind = eqb kind day_kind
+is_due Between kind = eqb kind group_kind || eqb kind end_kind
+is_due (Within b) kind = eqb kind unit_kind
 is_due Over kind = false
 
 -- whether the text may end
@@ -146,17 +144,16 @@ is_over (Within b) = false
 is_over Over = true
 
 abbrev pub may_come : Making → Line → Bool
-may_come m (L.Day d) = is_due m K.Day
-may_come m (L.Group g) = is_due m K.Group
-may_come m (L.Unit u) = is_due m K.Unit
-may_come m (L.End e) = is_due m K.End
+may_come m (L.Day d) = is_due m day_kind
+may_come m (L.Group g) = is_due m group_kind
+may_come m (L.Unit u) = is_due m unit_kind
+may_come m (L.End e) = is_due m end_kind
 may_come m L.Passed = true
 may_come m L.TooLong = not (is_over m)
-may_come m (L.Not None field) = false
-may_come m (L.Not (Some kind) field) = is_due m kind
+may_come m (L.Not kind field) = is_due m kind
 
 -- a field that is not in the form
-abbrev pub word_of : Option Kind → Field → Spot
+abbrev pub word_of : ℕ → Field → Spot
 word_of kind field = Word kind field
 
 -- what a line makes that may come; 0 where it is not in the form

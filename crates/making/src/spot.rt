@@ -13,8 +13,8 @@ pub enum Spot {
     Nowhere,
     // The word of a record, which may not come.
     Came(Kind),
-    // A field that is not in the form, of a record, or none where its word is no record's.
-    Word(Option<Kind>, Field),
+    // A field that is not in the form, of a record of this kind, 0 where its word is no record's: the number that `Line::Not` holds.
+    Word(u8, Field),
     // A value of a record that the writers refuse: the index of its field, and the value.
     Value(Kind, u8, i32),
 }

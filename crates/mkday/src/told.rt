@@ -1,6 +1,10 @@
 // What a refusal says: its number and its line, and on the line after them a sentence for a person.
 use making::making::Refused;
 use making::spot::{LONGEST_SHOWN, Spot, show};
+use records::day::DayRecord;
+use records::end::EndRecord;
+use records::group::GroupRecord;
+use records::unit::UnitRecord;
 use std::io;
 use terms::refusal::Why;
 use text::line::{Field, Kind, mark_length};
@@ -55,6 +59,17 @@ static UNIT: [(&str, &str); 12] = [
 static END: [(&str, &str); 2] = [("END", ""), ("groups", U32_FORM)];
 
 static BEHIND: (&str, &str) = ("after the last field", "a field of the line");
+
+// The record that the word of a line begins, by its number; none where no record has it.
+fn kind_of(number: u8) -> Option<Kind> {
+    match number {
+        DayRecord::KIND => Some(Kind::Day),
+        GroupRecord::KIND => Some(Kind::Group),
+        UnitRecord::KIND => Some(Kind::Unit),
+        EndRecord::KIND => Some(Kind::End),
+        _ => None,
+    }
+}
 
 // The words of a record.
 fn words_of(kind: Kind) -> &'static [(&'static str, &'static str)] {
@@ -161,9 +176,11 @@ fn say_spot<W: io::Write>(err: &mut W, refused: Refused, text: &[u8]) {
     match refused.spot {
         Spot::Nowhere => say_reason(err, why),
         Spot::Came(kind) => say_came(err, kind),
-        Spot::Word(None, found) => say_stranger(err, text, found),
-        Spot::Word(Some(kind), _) if why == Some(Why::Kind) => say_came(err, kind),
-        Spot::Word(Some(kind), found) => say_field(err, kind, text, found),
+        Spot::Word(number, found) => match kind_of(number) {
+            None => say_stranger(err, text, found),
+            Some(kind) if why == Some(Why::Kind) => say_came(err, kind),
+            Some(kind) => say_field(err, kind, text, found),
+        },
         Spot::Value(kind, index, value) => say_value(err, kind, index, value, why),
     }
 }

@@ -3,11 +3,9 @@ use Rattle.std.specs.Prelude.{ℕ, ◌-◌, Bool, true, false, ◌&&◌, List, [
 use Rattle.std.specs.Result.{result_ok}
 use Rattle.numbers.specs.Choice.{pick}
 use Rattle.records.specs.declared.unit.UnitRecord.{UnitRecord}
-use Rattle.records.specs.Layouts.{day_with, group_with, unit_with, with_ends, interval_kind}
+use Rattle.records.specs.Layouts.{day_kind, day_with, group_with, unit_with, with_ends, group_kind, unit_kind, interval_kind, end_kind}
 use Rattle.text.specs.declared.line.Line.{Line}
 use Rattle.text.specs.declared.line.Line.TheVariants.{Day, Group, Unit, End, Passed, TooLong, Not}
-use Rattle.text.specs.declared.line.Kind.{Kind}
-use Rattle.text.specs.declared.line.Kind.TheVariants as K
 use Rattle.text.specs.declared.line.Listed.{Listed}
 use Rattle.text.specs.declared.fields.Field.{Field}
 use Rattle.text.specs.Numbers.{is_blank, field_of}
@@ -35,9 +33,9 @@ end_word = 69 ∷ 78 ∷ 68 ∷ []
 
 -- ---- records: each field starts where the one before ends, and after the last stands nothing
 -- the record of a kind, unless a field is wrong
-abbrev pub ended : Kind → Result Line Field → Line
+abbrev pub ended : ℕ → Result Line Field → Line
 ended kind (Ok line) = line
-ended kind (Err field) = Not (Some kind) field
+ended kind (Err field) = Not kind field
 
 unfoldable pub day_line_of : List ℕ → ℕ → Result Line Field
 day_line_of text word =
@@ -100,14 +98,14 @@ end_line_of text word =
     next (over_at text 2 groups.end) (λ _.
     Ok (End (record { groups = groups.value }))))
 
--- the record that a word begins
+-- the record that a word begins; no record is of kind 0
 unfoldable pub fields_of : List ℕ → List ℕ → Field → Line
 fields_of name text word =
-    pick (same name unit_word) (ended K.Unit (unit_line_of text word.end))
-    (pick (same name group_word) (ended K.Group (group_line_of text word.end))
-    (pick (same name day_word) (ended K.Day (day_line_of text word.end))
-    (pick (same name end_word) (ended K.End (end_line_of text word.end))
-    (Not None word))))
+    pick (same name unit_word) (ended unit_kind (unit_line_of text word.end))
+    (pick (same name group_word) (ended group_kind (group_line_of text word.end))
+    (pick (same name day_word) (ended day_kind (day_line_of text word.end))
+    (pick (same name end_word) (ended end_kind (end_line_of text word.end))
+    (Not 0 word))))
 
 -- ---- lines
 -- a word, index 0, and the fields after it; blanks alone are passed over

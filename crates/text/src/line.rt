@@ -19,6 +19,9 @@ pub const MARK: usize = 3;
 
 const CARRIAGE_RETURN: u8 = 13;
 
+// The kind of a word that no record has.
+const NO_KIND: u8 = 0;
+
 // The record that the word of a line begins.
 #[derive(Clone, Copy, PartialEq, Eq, Debug)]
 pub enum Kind {
@@ -37,9 +40,10 @@ pub enum Line {
     End(EndRecord),
     // Empty, or a comment.
     Passed,
-    // Not in the form: above the most bytes; or a field is wrong after the word of a record, none where it is no record's.
+    // Not in the form: above the most bytes; or a field is wrong after the word of a record of this kind, 0 where it is no record's.
     TooLong,
-    Not(Option<Kind>, Field),
+    // A number and no `Kind`: `Making::turn` answers for any number (docs/CONTRACTS.md), and a narrower type would ask more of its callers.
+    Not(u8, Field),
 }
 
 // What the DAY line of the day list tells.
@@ -59,12 +63,12 @@ fn is_same(a: &[u8], b: &[u8]) -> bool
 }
 
 // The record of a kind, unless a field is wrong.
-fn ended(kind: Kind, read: Result<Line, Field>) -> Line
+fn ended(kind: u8, read: Result<Line, Field>) -> Line
     ensures { result ≡ ended kind read }
 {
     match read {
         Ok(line) => line,
-        Err(field) => Line::Not(Some(kind), field),
+        Err(field) => Line::Not(kind, field),
     }
 }
 
@@ -171,18 +175,18 @@ fn fields_in(name: &[u8], text: &[u8], word: Field) -> Line
     ensures { result ≡ fields_of name.now text.now word }
 {
     if is_same(name, b"UNIT") {
-        return ended(Kind::Unit, unit_in(text, word.end));
+        return ended(UnitRecord::KIND, unit_in(text, word.end));
     }
     if is_same(name, b"GROUP") {
-        return ended(Kind::Group, group_in(text, word.end));
+        return ended(GroupRecord::KIND, group_in(text, word.end));
     }
     if is_same(name, b"DAY") {
-        return ended(Kind::Day, day_in(text, word.end));
+        return ended(DayRecord::KIND, day_in(text, word.end));
     }
     if is_same(name, b"END") {
-        return ended(Kind::End, end_in(text, word.end));
+        return ended(EndRecord::KIND, end_in(text, word.end));
     }
-    Line::Not(None, word)
+    Line::Not(NO_KIND, word)
 }
 
 // A word, and then the fields of its record.
