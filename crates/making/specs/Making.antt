@@ -17,7 +17,6 @@ use Rattle.records.specs.Reading.{value_faults}
 use Rattle.writers.specs.Writing.{laid, write_day_of, write_end_of}
 use Rattle.text.specs.declared.line.Line.{Line}
 use Rattle.text.specs.declared.line.Line.TheVariants as L
-use Rattle.text.specs.declared.line.Kind.{Kind}
 use Rattle.text.specs.declared.line.Kind.TheVariants as K
 use Rattle.text.specs.declared.fields.Field.{Field}
 use Rattle.making.specs.declared.spot.Spot.{Spot}
@@ -121,13 +120,6 @@ unit_next Opening u line room = turn (refuses 2 line (Came K.Unit)) room
 unit_next Between u line room = turn (refuses 2 line (Came K.Unit)) room
 unit_next (Within b) u line room = unit_turn b u line room
 unit_next Over u line room = turn (refuses 2 line (Came K.Unit)) room
-
--- ---- the number of a kind, which its record begins with
-abbrev pub kind_number : Kind → ℕ
-kind_number K.Day = day_kind
-kind_number K.Group = group_kind
-kind_number K.Unit = unit_kind
-kind_number K.End = end_kind
 
 -- ---- lines: a DAY first and only first, a UNIT where one is due and nowhere else, nothing after END
 abbrev pub is_due : Making → ℕ → Bool

@@ -4,7 +4,7 @@ ghost use Rattle.terms.specs.Refusals.{reply};
 ghost use Rattle.records.specs.Layouts.{length_of};
 ghost use Rattle.records.specs.Reading.{value_faults};
 ghost use Rattle.making.specs.Spot.{fault_spot};
-ghost use Rattle.making.specs.Making.{by, number_told, told, written_made, day_turn, end_turn, open_found, group_turn, found_of, whole_made, made_by_unit, unit_turn, unit_next, kind_number, is_due, is_over, may_come, came_of, line_turn, turn_of, Turns};
+ghost use Rattle.making.specs.Making.{by, number_told, told, written_made, day_turn, end_turn, open_found, group_turn, found_of, whole_made, made_by_unit, unit_turn, unit_next, is_due, is_over, may_come, came_of, line_turn, turn_of, Turns};
 
 use crate::spot::Spot;
 use records::day::DayRecord;
@@ -253,28 +253,15 @@ impl Making {
         Making::Opening
     }
 
-    // Whether a record of a kind may come.
-    fn is_due(self, kind: Kind) -> bool
-        ensures { result ≡ is_due self (kind_number kind) }
+    // Whether a record may come, by the number of its kind, which may be any.
+    fn is_due(self, kind: u8) -> bool
+        ensures { result ≡ is_due self kind }
     {
         match self {
-            Making::Opening => kind == Kind::Day,
-            Making::Between => kind == Kind::Group || kind == Kind::End,
-            Making::Within(_) => kind == Kind::Unit,
+            Making::Opening => kind == DayRecord::KIND,
+            Making::Between => kind == GroupRecord::KIND || kind == EndRecord::KIND,
+            Making::Within(_) => kind == UnitRecord::KIND,
             Making::Over => false,
-        }
-    }
-
-    // The same, of the number of a kind, which may be any.
-    fn is_number_due(self, number: u8) -> bool
-        ensures { result ≡ is_due self number }
-    {
-        match number {
-            DayRecord::KIND => self.is_due(Kind::Day),
-            GroupRecord::KIND => self.is_due(Kind::Group),
-            UnitRecord::KIND => self.is_due(Kind::Unit),
-            EndRecord::KIND => self.is_due(Kind::End),
-            _ => false,
         }
     }
 
@@ -290,13 +277,13 @@ impl Making {
         ensures { result ≡ may_come self l }
     {
         match l {
-            Line::Day(_) => self.is_due(Kind::Day),
-            Line::Group(_) => self.is_due(Kind::Group),
-            Line::Unit(_) => self.is_due(Kind::Unit),
-            Line::End(_) => self.is_due(Kind::End),
+            Line::Day(_) => self.is_due(DayRecord::KIND),
+            Line::Group(_) => self.is_due(GroupRecord::KIND),
+            Line::Unit(_) => self.is_due(UnitRecord::KIND),
+            Line::End(_) => self.is_due(EndRecord::KIND),
             Line::Passed => true,
             Line::TooLong => !self.is_over(),
-            Line::Not(kind, _) => self.is_number_due(kind),
+            Line::Not(kind, _) => self.is_due(kind),
         }
     }
 
