@@ -59,11 +59,11 @@ fn take_in(
     let n = start.0;
     let down = margins.step_down;
     let up = margins.step_up;
-    step_up[i] = up;
-    step_down[i] = down;
-    n0[i] = n;
-    taken[i] = u32::from(implicit);
     class[i] = u.class;
+    taken[i] = u32::from(implicit);
+    n0[i] = n;
+    step_down[i] = down;
+    step_up[i] = up;
     true
 }
 
@@ -118,8 +118,10 @@ fn read_into(
     let mut floor: u32 = 0;
     let mut here = GroupRecord::LEN;
     let mut p: i32 = 0;
+    // Of a block that has the bytes of so many 03h each unit is asked for its kind alone, since all of them lie whole.
+    let roomy = GroupRecord::LEN + UnitRecord::LEN * n0.len() <= s.len();
     for i in 0..n0.len() {
-        if !is_plain(s, here) {
+        if !roomy || s[here] != UnitRecord::KIND {
             return read_on(
                 s, day, class, taken, n0, step_down, step_up, here, floor, p, i,
             );
