@@ -7,6 +7,7 @@ never too little; and a check that misses what was left out tells of no fact in 
 """
 
 import functools
+import pathlib
 import re
 import sys
 
@@ -50,12 +51,13 @@ class Crate:
 
     def __init__(self, crate):
         self.crate, self.place, self.sources = crate, ROOT / "crates" / crate, {}
-        self.functions = {}
+        self.functions, self.by_file = {}, {}
         for path in sorted((self.place / "src").glob("*.rt")):
             self.sources[f"src/{path.name}"] = text = path.read_text()
             for region in mutate.regions_of(crate, path, text):
                 if region.function:
                     self.functions[region.function.name] = Piece(region)
+                    self.by_file[path.name, region.name] = region.function.name
         self.laws = {path.stem: path.read_text() for path in (self.place / "proofs").glob("*.antt") if path.stem != "Lib"}
         answers = {str(path.parent.relative_to(self.place)) for path in (self.place / "proofs").glob("*/**/*.antt")}
         strays = answers - {one.proof for one in self.functions.values()}
@@ -122,10 +124,19 @@ class Crate:
         a constant that it touches, or whose contracts stand the fewest steps before a definition that it does; and of these such as
         rest on no other of them."""
         for steps in range(calls.STEPS + 1):
-            found = {one.name for one in calls.functions(self.crate) if touched & self.before(one, steps)}
+            found = {name for one in calls.functions(self.crate) if touched & self.before(one, steps) for name in self.bodies(one)}
             if found:
-                return {name for name in found if not found & self.kept([name])[0] - {name}}
+                # Methods of one name rest on each other as it is told here.
+                return {name for name in found if not found & self.kept([name])[0] - {name}} or found
         return set()
+
+    def bodies(self, function):
+        """The functions here that are one of tests/calls.py; those of its impls where a trait states it and gives no body."""
+        module = pathlib.Path(function.file)
+        name = "::".join(function.name.split("::")[1 + (module.stem not in ("lib", "main")) :])
+        if (module.name, name) in self.by_file:
+            return {self.by_file[module.name, name]}
+        return {name for name, one in self.functions.items() if one.short() == function.short}
 
     def before(self, function, steps):
         constants = {f"const {name}" for name in known().read_by(function)}
