@@ -118,7 +118,7 @@ fn read_into(
     let mut floor: u32 = 0;
     let mut here = GroupRecord::LEN;
     let mut p: i32 = 0;
-    // Of a block that has the bytes of so many 03h each unit is asked for its kind alone, since all of them lie whole.
+    // Where the block has the bytes of a 03h for each unit, a 03h behind 03h alone lies whole, so that its kind is all that is asked.
     let roomy = GroupRecord::LEN + UnitRecord::LEN * n0.len() <= s.len();
     for i in 0..n0.len() {
         if !roomy || s[here] != UnitRecord::KIND {
