@@ -17,7 +17,6 @@ use Rattle.records.specs.Reading.{value_faults}
 use Rattle.writers.specs.Writing.{laid, write_day_of, write_end_of}
 use Rattle.text.specs.declared.line.Line.{Line}
 use Rattle.text.specs.declared.line.Line.TheVariants as L
-use Rattle.text.specs.declared.line.Kind.TheVariants as K
 use Rattle.text.specs.declared.fields.Field.{Field}
 use Rattle.making.specs.declared.spot.Spot.{Spot}
 use Rattle.making.specs.declared.spot.Spot.TheVariants.{Nowhere, Came, Word}
@@ -34,11 +33,6 @@ pub data Told : Type 0 where
   whole : Making → ℕ → Told
   refuses : ℕ → ℕ → Spot → Told
 
--- the paper's number of the reason, or 0 where the line is not in the form
-abbrev pub number_told : Option Why → ℕ
-number_told (Some why) = number_of why
-number_told None = 0
-
 abbrev pub told_made : Making → Option ℕ → Told
 told_made next None = on next
 told_made next (Some bytes) = whole next bytes
@@ -46,11 +40,11 @@ told_made next (Some bytes) = whole next bytes
 -- what an answer tells
 abbrev pub told : Result Made Refused → Told
 told (Ok m) = told_made m.next m.whole
-told (Err r) = refuses (number_told r.why) r.line r.spot
+told (Err r) = refuses r.number r.line r.spot
 
 -- a refusal with the paper's number of a reason
 abbrev pub by : Why → ℕ → Spot → Refused
-by why line spot = record { why = Some why; line = line; spot = spot }
+by why line spot = record { number = number_of why; line = line; spot = spot }
 
 -- what a line makes, and the room then
 pub record Turn : Type 0 where
@@ -100,7 +94,7 @@ found_of (Some first) checked u line = Some first
 
 abbrev pub whole_made : Option Refused → ℕ → Told
 whole_made None bytes = whole Between bytes
-whole_made (Some r) bytes = refuses (number_told r.why) r.line r.spot
+whole_made (Some r) bytes = refuses r.number r.line r.spot
 
 -- a unit lies where the one before ends, and its number is above that of the one before
 unfoldable pub made_by_unit : Block → UnitRecord → Option Refused → Told
@@ -116,10 +110,10 @@ unit_turn b u line room =
 
 -- where no unit is due none may come
 abbrev pub unit_next : Making → UnitRecord → ℕ → List ℕ → Turn
-unit_next Opening u line room = turn (refuses 2 line (Came K.Unit)) room
-unit_next Between u line room = turn (refuses 2 line (Came K.Unit)) room
+unit_next Opening u line room = turn (refuses 2 line (Came unit_kind)) room
+unit_next Between u line room = turn (refuses 2 line (Came unit_kind)) room
 unit_next (Within b) u line room = unit_turn b u line room
-unit_next Over u line room = turn (refuses 2 line (Came K.Unit)) room
+unit_next Over u line room = turn (refuses 2 line (Came unit_kind)) room
 
 -- ---- lines: a DAY first and only first, a UNIT where one is due and nowhere else, nothing after END
 abbrev pub is_due : Making → ℕ → Bool
@@ -160,10 +154,10 @@ line_turn m (L.Not kind field) line room = turn (refuses 0 line (word_of kind fi
 
 -- the word of a line that may not come
 abbrev pub came_of : Line → Spot
-came_of (L.Day d) = Came K.Day
-came_of (L.Group g) = Came K.Group
-came_of (L.Unit u) = Came K.Unit
-came_of (L.End e) = Came K.End
+came_of (L.Day d) = Came day_kind
+came_of (L.Group g) = Came group_kind
+came_of (L.Unit u) = Came unit_kind
+came_of (L.End e) = Came end_kind
 came_of L.Passed = Nowhere
 came_of L.TooLong = Nowhere
 came_of (L.Not kind field) = word_of kind field

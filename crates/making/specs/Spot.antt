@@ -7,42 +7,42 @@ use Rattle.terms.specs.declared.refusal.Fault.TheVariants as F
 use Rattle.records.specs.declared.day.DayRecord.{DayRecord}
 use Rattle.records.specs.declared.group.GroupRecord.{GroupRecord}
 use Rattle.records.specs.declared.unit.UnitRecord.{UnitRecord}
-use Rattle.text.specs.declared.line.Kind.TheVariants as K
+use Rattle.records.specs.Layouts.{day_kind, group_kind, unit_kind}
 use Rattle.making.specs.declared.spot.Spot.{Spot}
 use Rattle.making.specs.declared.spot.Spot.TheVariants.{Value}
 
 -- ---- a value that the writers refuse: the record's kind, the field's index in the line, from 1 (docs/TEXT.md), and the value there
 -- 3 is told of a DAY's quarters
 abbrev pub quarters_spot : DayRecord → Spot
-quarters_spot d = Value K.Day 2 (pos d.quarters)
+quarters_spot d = Value day_kind 2 (pos d.quarters)
 
 -- 4 of a GROUP's quarter, 5 of its unit count
 abbrev pub quarter_spot : GroupRecord → Spot
-quarter_spot g = Value K.Group 3 (pos g.quarter)
+quarter_spot g = Value group_kind 3 (pos g.quarter)
 
 abbrev pub count_spot : GroupRecord → Spot
-count_spot g = Value K.Group 4 (pos g.count)
+count_spot g = Value group_kind 4 (pos g.count)
 
 -- 6 to 9 and 19 of the field of a UNIT's fault: N where it is not 0 though not nominated, M- of crossed margins, the lower end of crossed ends and of an interval that leaves no room; no unit of a text has the faults of kind, of a 03h's ends and of age
 abbrev pub fault_spot : UnitRecord → Fault → Spot
-fault_spot u F.Kind = Value K.Unit 0 (pos 0)
-fault_spot u F.Number = Value K.Unit 1 (pos u.number)
-fault_spot u F.Class = Value K.Unit 2 (pos u.class)
-fault_spot u F.Coincide = Value K.Unit 3 (pos u.coincide)
-fault_spot u F.Nominated = Value K.Unit 4 (pos u.nominated)
-fault_spot u F.NotNominated = Value K.Unit 5 u.n.0
-fault_spot u F.N = Value K.Unit 5 u.n.0
-fault_spot u F.Pc = Value K.Unit 6 u.pc.0
-fault_spot u F.StepDown = Value K.Unit 7 u.step_down
-fault_spot u F.StepUp = Value K.Unit 8 u.step_up
-fault_spot u F.Lower = Value K.Unit 10 u.lower
-fault_spot u F.Upper = Value K.Unit 11 u.upper
-fault_spot u F.Crossed = Value K.Unit 7 u.step_down
-fault_spot u F.EndsCrossed = Value K.Unit 10 u.lower
-fault_spot u F.NotFull = Value K.Unit 10 (pos 0)
-fault_spot u F.WorkingCrossed = Value K.Unit 10 u.lower
-fault_spot u F.Ahead = Value K.Unit 9 (pos 0)
-fault_spot u F.Age = Value K.Unit 9 (pos 0)
+fault_spot u F.Kind = Value unit_kind 0 (pos 0)
+fault_spot u F.Number = Value unit_kind 1 (pos u.number)
+fault_spot u F.Class = Value unit_kind 2 (pos u.class)
+fault_spot u F.Coincide = Value unit_kind 3 (pos u.coincide)
+fault_spot u F.Nominated = Value unit_kind 4 (pos u.nominated)
+fault_spot u F.NotNominated = Value unit_kind 5 u.n.0
+fault_spot u F.N = Value unit_kind 5 u.n.0
+fault_spot u F.Pc = Value unit_kind 6 u.pc.0
+fault_spot u F.StepDown = Value unit_kind 7 u.step_down
+fault_spot u F.StepUp = Value unit_kind 8 u.step_up
+fault_spot u F.Lower = Value unit_kind 10 u.lower
+fault_spot u F.Upper = Value unit_kind 11 u.upper
+fault_spot u F.Crossed = Value unit_kind 7 u.step_down
+fault_spot u F.EndsCrossed = Value unit_kind 10 u.lower
+fault_spot u F.NotFull = Value unit_kind 10 (pos 0)
+fault_spot u F.WorkingCrossed = Value unit_kind 10 u.lower
+fault_spot u F.Ahead = Value unit_kind 9 (pos 0)
+fault_spot u F.Age = Value unit_kind 9 (pos 0)
 
 -- ---- the word as it was found, for a person to read: at most 40 bytes, and '?' for what is not printable
 abbrev pub shown_byte : ℕ → ℕ

@@ -4,7 +4,7 @@ ghost use Rattle.terms.specs.Refusals.{reply};
 ghost use Rattle.records.specs.Layouts.{length_of};
 ghost use Rattle.records.specs.Reading.{value_faults};
 ghost use Rattle.making.specs.Spot.{fault_spot};
-ghost use Rattle.making.specs.Making.{by, number_told, told, written_made, day_turn, end_turn, open_found, group_turn, found_of, whole_made, made_by_unit, unit_turn, unit_next, is_due, is_over, may_come, came_of, line_turn, turn_of, Turns};
+ghost use Rattle.making.specs.Making.{by, told, written_made, day_turn, end_turn, open_found, group_turn, found_of, whole_made, made_by_unit, unit_turn, unit_next, is_due, is_over, may_come, came_of, line_turn, turn_of, Turns};
 
 use crate::spot::Spot;
 use records::day::DayRecord;
@@ -13,14 +13,16 @@ use records::faults::faults;
 use records::group::GroupRecord;
 use records::unit::UnitRecord;
 use terms::refusal::{Fault, Refusal, Why};
-use text::line::{Kind, Line};
+use text::line::Line;
 use writers::lay::{lay_group, lay_unit};
 use writers::single::{write_day, write_end};
 
-// Why a line is refused, none where it is not in the form; its number in the text; and what of it.
+// The number of a refusal (docs/TEXT.md): the paper's, or 0 where the line is not in the form; the line's number in the text; and what of it.
+// A number and no `Why`: `Making::turn` answers for any number that its state holds (docs/CONTRACTS.md), and a narrower type would ask more of
+// its callers.
 #[derive(Clone, Copy, PartialEq, Eq, Debug)]
 pub struct Refused {
-    pub why: Option<Why>,
+    pub number: u8,
     pub line: u64,
     pub spot: Spot,
 }
@@ -30,20 +32,16 @@ impl Refused {
         ensures { result ≡ by why line spot }
     {
         Refused {
-            why: Some(why),
+            number: why.number(),
             line,
             spot,
         }
     }
 
-    // The number that is told of it (docs/TEXT.md): the paper's, or 0 of a line that is not in the form.
     pub fn number(self) -> u8
-        ensures { result ≡ number_told self.why }
+        ensures { result ≡ self.number }
     {
-        match self.why {
-            Some(why) => why.number(),
-            None => 0,
-        }
+        self.number
     }
 }
 
@@ -77,23 +75,23 @@ fn fault_spot(u: UnitRecord, fault: Fault) -> Spot
     ensures { result ≡ fault_spot u fault }
 {
     match fault {
-        Fault::Kind => Spot::Value(Kind::Unit, 0, 0),
-        Fault::Number => Spot::Value(Kind::Unit, 1, i32::from(u.number)),
-        Fault::Class => Spot::Value(Kind::Unit, 2, i32::from(u.class)),
-        Fault::Coincide => Spot::Value(Kind::Unit, 3, i32::from(u.coincide)),
-        Fault::Nominated => Spot::Value(Kind::Unit, 4, i32::from(u.nominated)),
-        Fault::NotNominated => Spot::Value(Kind::Unit, 5, u.n.0),
-        Fault::N => Spot::Value(Kind::Unit, 5, u.n.0),
-        Fault::Pc => Spot::Value(Kind::Unit, 6, u.pc.0),
-        Fault::StepDown => Spot::Value(Kind::Unit, 7, u.step_down),
-        Fault::StepUp => Spot::Value(Kind::Unit, 8, u.step_up),
-        Fault::Lower => Spot::Value(Kind::Unit, 10, u.lower),
-        Fault::Upper => Spot::Value(Kind::Unit, 11, u.upper),
-        Fault::Crossed => Spot::Value(Kind::Unit, 7, u.step_down),
-        Fault::EndsCrossed => Spot::Value(Kind::Unit, 10, u.lower),
-        Fault::NotFull => Spot::Value(Kind::Unit, 10, 0),
-        Fault::WorkingCrossed => Spot::Value(Kind::Unit, 10, u.lower),
-        Fault::Ahead | Fault::Age => Spot::Value(Kind::Unit, 9, 0),
+        Fault::Kind => Spot::Value(UnitRecord::KIND, 0, 0),
+        Fault::Number => Spot::Value(UnitRecord::KIND, 1, i32::from(u.number)),
+        Fault::Class => Spot::Value(UnitRecord::KIND, 2, i32::from(u.class)),
+        Fault::Coincide => Spot::Value(UnitRecord::KIND, 3, i32::from(u.coincide)),
+        Fault::Nominated => Spot::Value(UnitRecord::KIND, 4, i32::from(u.nominated)),
+        Fault::NotNominated => Spot::Value(UnitRecord::KIND, 5, u.n.0),
+        Fault::N => Spot::Value(UnitRecord::KIND, 5, u.n.0),
+        Fault::Pc => Spot::Value(UnitRecord::KIND, 6, u.pc.0),
+        Fault::StepDown => Spot::Value(UnitRecord::KIND, 7, u.step_down),
+        Fault::StepUp => Spot::Value(UnitRecord::KIND, 8, u.step_up),
+        Fault::Lower => Spot::Value(UnitRecord::KIND, 10, u.lower),
+        Fault::Upper => Spot::Value(UnitRecord::KIND, 11, u.upper),
+        Fault::Crossed => Spot::Value(UnitRecord::KIND, 7, u.step_down),
+        Fault::EndsCrossed => Spot::Value(UnitRecord::KIND, 10, u.lower),
+        Fault::NotFull => Spot::Value(UnitRecord::KIND, 10, 0),
+        Fault::WorkingCrossed => Spot::Value(UnitRecord::KIND, 10, u.lower),
+        Fault::Ahead | Fault::Age => Spot::Value(UnitRecord::KIND, 9, 0),
     }
 }
 
@@ -119,7 +117,7 @@ fn day(d: DayRecord, line: u64, room: &mut [u8]) -> Result<Made, Refused>
     ensures { Turns (day_turn d line room.old) result room.new }
 {
     let a = write_day(d, room);
-    let quarters = Spot::Value(Kind::Day, 2, i32::from(d.quarters));
+    let quarters = Spot::Value(DayRecord::KIND, 2, i32::from(d.quarters));
     written(a, Making::Between, line, quarters)
 }
 
@@ -136,7 +134,7 @@ fn open_found(g: GroupRecord, line: u64) -> Option<Refused>
     ensures { result ≡ open_found g line }
 {
     if DayRecord::AUTUMN <= g.quarter {
-        let quarter = Spot::Value(Kind::Group, 3, i32::from(g.quarter));
+        let quarter = Spot::Value(GroupRecord::KIND, 3, i32::from(g.quarter));
         return Some(Refused::by(Why::Quarter, line, quarter));
     }
     None
@@ -148,7 +146,7 @@ fn group(g: GroupRecord, line: u64, room: &mut [u8]) -> Result<Made, Refused>
     ensures { Turns (group_turn g line room.old) result room.new }
 {
     if !GroupRecord::permits(usize::from(g.count)) {
-        let count = Spot::Value(Kind::Group, 4, i32::from(g.count));
+        let count = Spot::Value(GroupRecord::KIND, 4, i32::from(g.count));
         return Err(Refused::by(Why::UnitCount, line, count));
     }
     if room.len() < GroupRecord::LEN {
@@ -227,7 +225,7 @@ fn unit_next(m: Making, u: UnitRecord, line: u64, room: &mut [u8]) -> Result<Mad
     ensures { Turns (unit_next m u line room.old) result room.new }
 {
     let Making::Within(b) = m else {
-        return Err(Refused::by(Why::Kind, line, Spot::Came(Kind::Unit)));
+        return Err(Refused::by(Why::Kind, line, Spot::Came(UnitRecord::KIND)));
     };
     unit(b, u, line, room)
 }
@@ -237,10 +235,10 @@ fn came(l: Line) -> Spot
     ensures { result ≡ came_of l }
 {
     match l {
-        Line::Day(_) => Spot::Came(Kind::Day),
-        Line::Group(_) => Spot::Came(Kind::Group),
-        Line::Unit(_) => Spot::Came(Kind::Unit),
-        Line::End(_) => Spot::Came(Kind::End),
+        Line::Day(_) => Spot::Came(DayRecord::KIND),
+        Line::Group(_) => Spot::Came(GroupRecord::KIND),
+        Line::Unit(_) => Spot::Came(UnitRecord::KIND),
+        Line::End(_) => Spot::Came(EndRecord::KIND),
         Line::Passed | Line::TooLong => Spot::Nowhere,
         Line::Not(kind, field) => Spot::Word(kind, field),
     }
@@ -287,7 +285,7 @@ impl Making {
         }
     }
 
-    // What a line makes that may come.
+    // What a line makes that may come: 0 where it is not in the form.
     fn made(self, l: Line, line: u64, room: &mut [u8]) -> Result<Made, Refused>
         ensures { Turns (line_turn self l line room.old) result room.new }
     {
@@ -301,12 +299,12 @@ impl Making {
                 whole: None,
             }),
             Line::TooLong => Err(Refused {
-                why: None,
+                number: 0,
                 line,
                 spot: Spot::Nowhere,
             }),
             Line::Not(kind, field) => Err(Refused {
-                why: None,
+                number: 0,
                 line,
                 spot: Spot::Word(kind, field),
             }),

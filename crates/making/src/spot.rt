@@ -2,21 +2,22 @@
 ghost use Rattle.std.specs.Prelude.{◌≡◌};
 ghost use Rattle.making.specs.Spot.{shown_byte, Shows};
 
-use text::line::{Field, Kind};
+use text::line::Field;
 
 // The most bytes of a word that are shown.
 pub const LONGEST_SHOWN: usize = 40;
 
+// Kinds are numbers, of which the state of `Making::turn` holds any, as `Refused` says.
 #[derive(Clone, Copy, PartialEq, Eq, Debug)]
 pub enum Spot {
     // No field: the whole line, or the end of the text.
     Nowhere,
-    // The word of a record, which may not come.
-    Came(Kind),
+    // The word of a record of this kind, which may not come.
+    Came(u8),
     // A field that is not in the form, of a record of this kind, 0 where its word is no record's: the number that `Line::Not` holds.
     Word(u8, Field),
-    // A value of a record that the writers refuse: the index of its field, and the value.
-    Value(Kind, u8, i32),
+    // A value that the writers refuse, of a record of this kind: the index of its field, and the value.
+    Value(u8, u8, i32),
 }
 
 fn shown(byte: u8) -> u8

@@ -2,12 +2,11 @@
 use making::making::Refused;
 use making::spot::{LONGEST_SHOWN, Spot, show};
 use records::day::DayRecord;
-use records::end::EndRecord;
 use records::group::GroupRecord;
 use records::unit::UnitRecord;
 use std::io;
 use terms::refusal::Why;
-use text::line::{Field, Kind, mark_length};
+use text::line::{Field, mark_length};
 
 const DAY_FORM: &str = "a whole number from 0 to 65535 or a date such as 2026-01-14";
 
@@ -60,56 +59,45 @@ static END: [(&str, &str); 2] = [("END", ""), ("groups", U32_FORM)];
 
 static BEHIND: (&str, &str) = ("after the last field", "a field of the line");
 
-// The record that the word of a line begins, by its number; none where no record has it.
-fn kind_of(number: u8) -> Option<Kind> {
-    match number {
-        DayRecord::KIND => Some(Kind::Day),
-        GroupRecord::KIND => Some(Kind::Group),
-        UnitRecord::KIND => Some(Kind::Unit),
-        EndRecord::KIND => Some(Kind::End),
-        _ => None,
-    }
-}
-
-// The words of a record.
-fn words_of(kind: Kind) -> &'static [(&'static str, &'static str)] {
+// The words of a record by its kind. Of a word that no record has nothing is asked here: it may not come.
+fn words_of(kind: u8) -> &'static [(&'static str, &'static str)] {
     match kind {
-        Kind::Day => &DAY,
-        Kind::Group => &GROUP,
-        Kind::Unit => &UNIT,
-        Kind::End => &END,
+        DayRecord::KIND => &DAY,
+        GroupRecord::KIND => &GROUP,
+        UnitRecord::KIND => &UNIT,
+        _ => &END,
     }
 }
 
 // A field by its index in the line: its name, and what it has to be.
-fn field(kind: Kind, index: u8) -> (&'static str, &'static str) {
+fn field(kind: u8, index: u8) -> (&'static str, &'static str) {
     *words_of(kind).get(usize::from(index)).unwrap_or(&BEHIND)
 }
 
-// What is wrong with the line or the text, where no field is told, or with a value.
-fn reason(why: Option<Why>) -> &'static str {
-    match why {
-        None => "longer than 255 bytes in front of its comment",
-        Some(Why::CutShort) => "the text stops early",
-        Some(Why::Kind) => "nothing may come here",
-        Some(Why::Quarters) => "not 92, 96 or 100",
-        Some(Why::Quarter) => "above 99",
-        Some(Why::UnitCount) => "not from 1 to 64",
-        Some(Why::UnitNumber) => "not above the number before it",
-        Some(Why::Flag) => "neither 0 nor 1",
-        Some(Why::Range) => "not from -1000000 to 1000000",
-        Some(Why::Crossed) => "above M+",
-        Some(_) => "refused",
+// What is wrong, by the refusal's number: with the line or the text, where no field is told, or with a value.
+fn reason(number: u8) -> &'static str {
+    match number {
+        0 => "longer than 255 bytes in front of its comment",
+        1 => "the text stops early",
+        2 => "nothing may come here",
+        3 => "not 92, 96 or 100",
+        4 => "above 99",
+        5 => "not from 1 to 64",
+        6 => "not above the number before it",
+        7 => "neither 0 nor 1",
+        8 => "not from -1000000 to 1000000",
+        9 => "above M+",
+        _ => "refused",
     }
 }
 
 // What is wrong with a value. N, the fifth field of a unit, is told by 7 though it is no flag, and the lower end, the tenth, by 9 of the ends.
-fn wrong(why: Option<Why>, index: u8) -> &'static str {
-    match (why, index) {
-        (Some(Why::Flag), 5) => "not 0 though not nominated",
-        (Some(Why::Crossed), 10) => "above the upper end",
-        (Some(Why::WorkingCrossed), _) => "of an interval that leaves no room between the margins",
-        _ => reason(why),
+fn wrong(number: u8, index: u8) -> &'static str {
+    match (number, index) {
+        (7, 5) => "not 0 though not nominated",
+        (9, 10) => "above the upper end",
+        (19, _) => "of an interval that leaves no room between the margins",
+        _ => reason(number),
     }
 }
 
@@ -134,14 +122,14 @@ fn say_stranger<W: io::Write>(err: &mut W, text: &[u8], found: Field) {
     say(err, " may not come here");
 }
 
-fn say_came<W: io::Write>(err: &mut W, kind: Kind) {
+fn say_came<W: io::Write>(err: &mut W, kind: u8) {
     say(err, ": ");
     say(err, field(kind, 0).0);
     say(err, " may not come here");
 }
 
 // A field that is not in the form.
-fn say_field<W: io::Write>(err: &mut W, kind: Kind, text: &[u8], found: Field) {
+fn say_field<W: io::Write>(err: &mut W, kind: u8, text: &[u8], found: Field) {
     let (name, form) = field(kind, found.index);
     say(err, ", ");
     say(err, name);
@@ -156,32 +144,30 @@ fn say_field<W: io::Write>(err: &mut W, kind: Kind, text: &[u8], found: Field) {
 }
 
 // A value that the writers refuse.
-fn say_value<W: io::Write>(err: &mut W, kind: Kind, index: u8, value: i32, why: Option<Why>) {
+fn say_value<W: io::Write>(err: &mut W, kind: u8, index: u8, value: i32, number: u8) {
     say(err, ", ");
     say(err, field(kind, index).0);
     say(err, ": ");
     let _ = write!(err, "{value}");
     say(err, " is ");
-    say(err, wrong(why, index));
+    say(err, wrong(number, index));
 }
 
 // What is wrong where no field is told.
-fn say_reason<W: io::Write>(err: &mut W, why: Option<Why>) {
+fn say_reason<W: io::Write>(err: &mut W, number: u8) {
     say(err, ": ");
-    say(err, reason(why));
+    say(err, reason(number));
 }
 
 fn say_spot<W: io::Write>(err: &mut W, refused: Refused, text: &[u8]) {
-    let why = refused.why;
+    let number = refused.number();
     match refused.spot {
-        Spot::Nowhere => say_reason(err, why),
+        Spot::Nowhere => say_reason(err, number),
         Spot::Came(kind) => say_came(err, kind),
-        Spot::Word(number, found) => match kind_of(number) {
-            None => say_stranger(err, text, found),
-            Some(kind) if why == Some(Why::Kind) => say_came(err, kind),
-            Some(kind) => say_field(err, kind, text, found),
-        },
-        Spot::Value(kind, index, value) => say_value(err, kind, index, value, why),
+        Spot::Word(0, found) => say_stranger(err, text, found),
+        Spot::Word(kind, _) if number == Why::Kind.number() => say_came(err, kind),
+        Spot::Word(kind, found) => say_field(err, kind, text, found),
+        Spot::Value(kind, index, value) => say_value(err, kind, index, value, number),
     }
 }
 

@@ -14,7 +14,7 @@ fn ending(making: Making, lines: u64) -> Result<(), Stop> {
         return Ok(());
     }
     Err(Stop::Refused(Refused {
-        why: Some(Why::CutShort),
+        number: Why::CutShort.number(),
         line: lines.wrapping_add(1),
         spot: Spot::Nowhere,
     }))

@@ -1,5 +1,5 @@
 -- A line of the text: a word, and then the fields of its record, one after another.
-use Rattle.std.specs.Prelude.{ℕ, ◌-◌, Bool, true, false, ◌&&◌, List, [], ◌∷◌, eqb, ltb, length, get_or, take, drop, Option, Some, None, Result, Ok, Err, is_ok}
+use Rattle.std.specs.Prelude.{ℕ, ◌-◌, Bool, true, false, ◌&&◌, List, [], ◌∷◌, eqb, ltb, length, get_or, take, drop, Option, None, Result, Ok, Err, is_ok}
 use Rattle.std.specs.Result.{result_ok}
 use Rattle.numbers.specs.Choice.{pick}
 use Rattle.records.specs.declared.unit.UnitRecord.{UnitRecord}

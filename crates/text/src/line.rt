@@ -22,15 +22,6 @@ const CARRIAGE_RETURN: u8 = 13;
 // The kind of a word that no record has.
 const NO_KIND: u8 = 0;
 
-// The record that the word of a line begins.
-#[derive(Clone, Copy, PartialEq, Eq, Debug)]
-pub enum Kind {
-    Day,
-    Group,
-    Unit,
-    End,
-}
-
 // One enum, and no Result of a line that is in the form: of one that is not it is asked too whether it may come, and that is told first.
 #[derive(Clone, Copy)]
 pub enum Line {
@@ -42,7 +33,7 @@ pub enum Line {
     Passed,
     // Not in the form: above the most bytes; or a field is wrong after the word of a record of this kind, 0 where it is no record's.
     TooLong,
-    // A number and no `Kind`: `Making::turn` answers for any number (docs/CONTRACTS.md), and a narrower type would ask more of its callers.
+    // A number and no enum of kinds: `Making::turn` answers for any number (docs/CONTRACTS.md), and a narrower type would ask more of its callers.
     Not(u8, Field),
 }
 
