@@ -122,15 +122,14 @@ fn say_stranger<W: io::Write>(err: &mut W, text: &[u8], found: Field) {
     say(err, " may not come here");
 }
 
-fn say_came<W: io::Write>(err: &mut W, kind: u8) {
+fn say_came<W: io::Write>(err: &mut W, name: &str) {
     say(err, ": ");
-    say(err, field(kind, 0).0);
+    say(err, name);
     say(err, " may not come here");
 }
 
 // A field that is not in the form.
-fn say_field<W: io::Write>(err: &mut W, kind: u8, text: &[u8], found: Field) {
-    let (name, form) = field(kind, found.index);
+fn say_field<W: io::Write>(err: &mut W, (name, form): (&str, &str), text: &[u8], found: Field) {
     say(err, ", ");
     say(err, name);
     if found.end <= found.start {
@@ -144,30 +143,32 @@ fn say_field<W: io::Write>(err: &mut W, kind: u8, text: &[u8], found: Field) {
 }
 
 // A value that the writers refuse.
-fn say_value<W: io::Write>(err: &mut W, kind: u8, index: u8, value: i32, number: u8) {
+fn say_value<W: io::Write>(err: &mut W, name: &str, value: i32, wrong: &str) {
     say(err, ", ");
-    say(err, field(kind, index).0);
+    say(err, name);
     say(err, ": ");
     let _ = write!(err, "{value}");
     say(err, " is ");
-    say(err, wrong(number, index));
+    say(err, wrong);
 }
 
 // What is wrong where no field is told.
-fn say_reason<W: io::Write>(err: &mut W, number: u8) {
+fn say_reason<W: io::Write>(err: &mut W, reason: &str) {
     say(err, ": ");
-    say(err, reason(number));
+    say(err, reason);
 }
 
 fn say_spot<W: io::Write>(err: &mut W, refused: Refused, text: &[u8]) {
     let number = refused.number();
     match refused.spot {
-        Spot::Nowhere => say_reason(err, number),
-        Spot::Came(kind) => say_came(err, kind),
+        Spot::Nowhere => say_reason(err, reason(number)),
+        Spot::Came(kind) => say_came(err, field(kind, 0).0),
         Spot::Word(0, found) => say_stranger(err, text, found),
-        Spot::Word(kind, _) if number == Why::Kind.number() => say_came(err, kind),
-        Spot::Word(kind, found) => say_field(err, kind, text, found),
-        Spot::Value(kind, index, value) => say_value(err, kind, index, value, number),
+        Spot::Word(kind, _) if number == Why::Kind.number() => say_came(err, field(kind, 0).0),
+        Spot::Word(kind, found) => say_field(err, field(kind, found.index), text, found),
+        Spot::Value(kind, index, value) => {
+            say_value(err, field(kind, index).0, value, wrong(number, index));
+        }
     }
 }
 
