@@ -38,10 +38,15 @@ impl Refused {
         }
     }
 
-    pub fn number(self) -> u8
-        ensures { result ≡ self.number }
+    // Of a line that is not in the form.
+    fn formless(line: u64, spot: Spot) -> Refused
+        ensures { result ≡ record { number = 0; line = line; spot = spot } }
     {
-        self.number
+        Refused {
+            number: 0,
+            line,
+            spot,
+        }
     }
 }
 
@@ -298,16 +303,8 @@ impl Making {
                 next: self,
                 whole: None,
             }),
-            Line::TooLong => Err(Refused {
-                number: 0,
-                line,
-                spot: Spot::Nowhere,
-            }),
-            Line::Not(kind, field) => Err(Refused {
-                number: 0,
-                line,
-                spot: Spot::Word(kind, field),
-            }),
+            Line::TooLong => Err(Refused::formless(line, Spot::Nowhere)),
+            Line::Not(kind, field) => Err(Refused::formless(line, Spot::Word(kind, field))),
         }
     }
 

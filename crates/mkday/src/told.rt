@@ -59,7 +59,7 @@ static END: [(&str, &str); 2] = [("END", ""), ("groups", U32_FORM)];
 
 static BEHIND: (&str, &str) = ("after the last field", "a field of the line");
 
-// The words of a record by its kind. Of a word that no record has nothing is asked here: it may not come.
+// The words of a record by its kind, a number as `Spot` holds it. Of a word that no record has nothing is asked here: it may not come.
 fn words_of(kind: u8) -> &'static [(&'static str, &'static str)] {
     match kind {
         DayRecord::KIND => &DAY,
@@ -74,7 +74,7 @@ fn field(kind: u8, index: u8) -> (&'static str, &'static str) {
     *words_of(kind).get(usize::from(index)).unwrap_or(&BEHIND)
 }
 
-// What is wrong, by the refusal's number: with the line or the text, where no field is told, or with a value.
+// What is wrong, by the refusal's number (docs/TEXT.md), as `Refused` holds it: with the line or the text, where no field is told, or with a value.
 fn reason(number: u8) -> &'static str {
     match number {
         0 => "longer than 255 bytes in front of its comment",
@@ -159,7 +159,7 @@ fn say_reason<W: io::Write>(err: &mut W, reason: &str) {
 }
 
 fn say_spot<W: io::Write>(err: &mut W, refused: Refused, text: &[u8]) {
-    let number = refused.number();
+    let number = refused.number;
     match refused.spot {
         Spot::Nowhere => say_reason(err, reason(number)),
         Spot::Came(kind) => say_came(err, field(kind, 0).0),
@@ -175,7 +175,7 @@ fn say_spot<W: io::Write>(err: &mut W, refused: Refused, text: &[u8]) {
 // The number and the line, for a program to read; then the line, the field by its name, and what is wrong with it. A word stands behind the mark
 // that may stand in front of the line.
 pub fn tell_refusal<W: io::Write>(err: &mut W, refused: Refused, line: &[u8]) {
-    let number = refused.number();
+    let number = refused.number;
     let at = refused.line;
     say(err, "REFUSED ");
     let _ = write!(err, "{number}");
