@@ -59,11 +59,12 @@ fn take_in(
     let n = start.0;
     let down = margins.step_down;
     let up = margins.step_up;
+    // The margins first, for speed: nothing waits for them.
+    step_down[i] = down;
+    step_up[i] = up;
     class[i] = u.class;
     taken[i] = u32::from(implicit);
     n0[i] = n;
-    step_down[i] = down;
-    step_up[i] = up;
     true
 }
 
@@ -118,10 +119,8 @@ fn read_into(
     let mut floor: u32 = 0;
     let mut here = GroupRecord::LEN;
     let mut p: i32 = 0;
-    // Where the block has the bytes of a 03h for each unit, a 03h behind 03h alone lies whole, so that its kind is all that is asked.
-    let roomy = GroupRecord::LEN + UnitRecord::LEN * n0.len() <= s.len();
     for i in 0..n0.len() {
-        if !roomy || s[here] != UnitRecord::KIND {
+        if !is_plain(s, here) {
             return read_on(
                 s, day, class, taken, n0, step_down, step_up, here, floor, p, i,
             );
