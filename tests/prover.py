@@ -23,8 +23,8 @@ from calls import KIND
 ROOT = pathlib.Path(__file__).resolve().parent.parent
 # What this run works on: checked modules, and a bench for each job. rt ci takes no file of Rattle or antt in the checkout but the crates'.
 RUN = pathlib.Path(tempfile.gettempdir()) / f"flehwella-run-{os.getpid()}"
-# Of a processor: a check that others go before may take far longer by the clock.
-SECONDS = 300
+# Of a processor: a check that others go before may take far longer by the clock. A lot whose goals are searched for in vain takes some hundred.
+SECONDS = 900
 # The changes of one check: with more of them little is saved, and the jobs end less evenly.
 LOT = 16
 # Errors that only say that a proof names what the changed code no longer has, or rests on another that was refused.
