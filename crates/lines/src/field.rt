@@ -9,6 +9,7 @@ ghost use Rattle.lines.specs.Inner.{Lays};
 use crate::number::{Few, digit_count};
 use numbers::bytes::Field;
 use numbers::decimal::{ZERO, lay_digits, long_count};
+use numbers::signed::magnitude;
 
 pub const SPACE: u8 = 32;
 
@@ -89,7 +90,7 @@ pub fn lay_i32_field(out: &mut [u8], at: usize, z: i32) -> usize
     requires { at + i32_field ≤ length out.old }
     ensures { Lays out.old at (32 ∷ signed_decimal z) i32_field result out.new }
 {
-    let size = z.unsigned_abs();
+    let size = magnitude(z);
     if z < 0 {
         SPACE.lay(out, at);
         return lay_number(out, at + 1, MINUS, size);

@@ -1,9 +1,11 @@
 -- The digits that are written for a number are read as that number, and digits that are read are those that are written for theirs.
-use Rattle.std.proofs.Common.{◌≡◌, ℕ, zero, suc, ◌+◌, ◌-◌, ◌*◌, ◌/◌, ◌%◌, ◌^◌, ◌<◌, ◌≤◌, true, leb, List, [], ◌∷◌, ◌++◌, sym, refl, ◌∙◌, append_assoc, append-nil, arith, le-leb, leb-true}
+use Rattle.std.proofs.Common.{◌≡◌, ℕ, zero, suc, ◌+◌, ◌-◌, ◌*◌, ◌/◌, ◌%◌, ◌^◌, ◌<◌, ◌≤◌, Bool, true, false, ◌&&◌, leb, List, [], ◌∷◌, ◌++◌, sym, refl, ◌∙◌, append_assoc, append-nil, arith, le-leb, leb-false, leb-true}
 use native.Mathlib.Decide.{dec_lt}
+use borrow.Author.Tests.{lt-leb}
 use lib.ListN.{get_or-append}
 use Rattle.numbers.specs.Bytes.{byte_at}
-use Rattle.numbers.specs.Decimal.{digit, digits, decimal, is_digit, all_digits, number_from}
+use Rattle.numbers.specs.Choice.{pick}
+use Rattle.numbers.specs.Decimal.{digit, digits, decimal, is_digit, all_digits, number_from, digit_in}
 use Rattle.numbers.proofs.Choices.{and_both}
 use Rattle.numbers.proofs.Digits.{last-digit, more-digits, tenth-below, some, more-figures}
 
@@ -14,6 +16,21 @@ pub digit-bounds : (b : ℕ) → is_digit b ≡ true → (48 ≤ b) × (b ≤ 57
 digit-bounds b e =
     let p = and_both (leb 48 b) (leb b 57) e in
     (leb-true 48 b p.0, leb-true b 57 p.1)
+
+-- ---- one comparison tells a digit
+pub digit-in : (b : ℕ) → digit_in b ≤ 9 → (is_digit b ≡ true) × (digit_in b ≡ b - 48)
+digit-in b = go (leb 48 b) refl
+  where
+    go : (t : Bool) → leb 48 b ≡ t → pick t (b - 48) (b + 4294967248) ≤ 9 → (t && leb b 57 ≡ true) × (pick t (b - 48) (b + 4294967248) ≡ b - 48)
+    go true e h = (le-leb b 57 (omega (arith, leb-true 48 b e)), refl)
+    go false e h = absurd (omega arith)
+
+pub no-digit-in : (b : ℕ) → 9 < digit_in b → is_digit b ≡ false
+no-digit-in b = go (leb 48 b) refl
+  where
+    go : (t : Bool) → leb 48 b ≡ t → 9 < pick t (b - 48) (b + 4294967248) → t && leb b 57 ≡ false
+    go true e h = lt-leb b 57 (omega arith)
+    go false e h = refl
 
 -- ---- one digit more
 all_more : (s : List ℕ) (b : ℕ) → all_digits s ≡ true → is_digit b ≡ true → all_digits (s ++ (b ∷ [])) ≡ true

@@ -20,9 +20,13 @@ decimal n = digits 20 n
 abbrev pub is_digit : ℕ → Bool
 is_digit b = nat_le 48 b && nat_le b 57
 
+-- the number of a digit; of any other byte one above 9, as 32 bits wrap
+abbrev pub digit_in : ℕ → ℕ
+digit_in b = pick (nat_le 48 b) (b - 48) (b + 4294967248)
+
 -- the number of a digit; of any other byte none
-abbrev pub digit_in : ℕ → Option ℕ
-digit_in b = pick (is_digit b) (Some (b - 48)) None
+abbrev pub to_digit : ℕ → Option ℕ
+to_digit b = pick (is_digit b) (Some (b - 48)) None
 
 unfoldable pub all_digits : List ℕ → Bool
 all_digits [] = true

@@ -1,17 +1,24 @@
 // Numbers in decimal: a digit read, and all digits of a number laid at a place of a room.
 ghost use Rattle.std.specs.Prelude.{◌≡◌, ◌+◌, ◌≤◌, length};
 ghost use Rattle.numbers.specs.Bytes.{laid_at};
-ghost use Rattle.numbers.specs.Decimal.{digit_in, decimal};
+ghost use Rattle.numbers.specs.Decimal.{digit_in, to_digit, decimal};
 
 use crate::bytes::Field;
 
 // The digit 0, in ASCII.
 pub const ZERO: u8 = 48;
 
+// The number of a digit; of any other byte a number above 9, so that one comparison tells both. No Option: it is a public function that cannot fail (docs/CONTRACTS.md); `to_digit` stands beside it.
+pub fn digit_of(byte: u8) -> u32
+    ensures { result ≡ digit_in byte }
+{
+    u32::from(byte).wrapping_sub(u32::from(ZERO))
+}
+
 // The number of a digit, 0 to 9 in ASCII; of any other byte none.
 #[inline]
-pub fn digit_of(byte: u8) -> Option<u32>
-    ensures { result ≡ digit_in byte }
+pub fn to_digit(byte: u8) -> Option<u32>
+    ensures { result ≡ to_digit byte }
 {
     if byte.is_ascii_digit() {
         Some(u32::from(byte - ZERO))

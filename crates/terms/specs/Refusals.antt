@@ -37,6 +37,15 @@ abbrev pub reply : {A : Type 0} → Result A Refusal → Reply A
 reply (Ok a) = is a
 reply (Err r) = refusal r
 
+-- what an answer that is none hands out in place of a refusal
+abbrev pub no_refusal : Refusal
+no_refusal = record { why = W.Kind; place = 0 }
+
+-- the refusal of an answer that is one
+abbrev pub refusal_of : {A : Type 0} → Result A Refusal → Refusal
+refusal_of (Ok a) = no_refusal
+refusal_of (Err r) = r
+
 -- why a fault of a unit is refused
 abbrev pub why_of : Fault → Why
 why_of F.Kind = W.Kind

@@ -1,6 +1,6 @@
 // Refusals: why, and where.
 ghost use Rattle.std.specs.Prelude.{◌≡◌};
-ghost use Rattle.terms.specs.Refusals.{number_of, why_of, refused_at};
+ghost use Rattle.terms.specs.Refusals.{number_of, no_refusal, refusal_of, why_of, refused_at};
 
 // The reasons for a refusal, each with its number.
 #[derive(Clone, Copy, PartialEq, Eq, Debug)]
@@ -38,6 +38,26 @@ impl Why {
 pub struct Refusal {
     pub why: Why,
     pub place: usize,
+}
+
+// What is handed out in place of the refusal of an answer that is none. No Option: it is a public function that cannot fail (docs/CONTRACTS.md), as `refusal_of` is.
+pub fn no_refusal() -> Refusal
+    ensures { result ≡ no_refusal }
+{
+    Refusal {
+        why: Why::Kind,
+        place: 0,
+    }
+}
+
+// The refusal of an answer that is one, whatever it answers else; of any other `no_refusal`.
+pub fn refusal_of<A>(answer: &Result<A, Refusal>) -> Refusal
+    ensures { result ≡ refusal_of answer.now }
+{
+    match answer {
+        Ok(_) => no_refusal(),
+        Err(r) => *r,
+    }
 }
 
 // What can be wrong with a unit, field by field.

@@ -2,7 +2,7 @@
 ghost use Rattle.std.specs.Prelude.{◌≡◌, ◌+◌, length, drop};
 ghost use Rattle.text.specs.Numbers.{size_of, is_blank, blanks, field_of, number_in};
 
-use numbers::decimal::digit_of;
+use numbers::decimal::to_digit;
 
 // The number that one digit or more make, unless it is above the largest of 32 bits: no field is larger. Not by `parse`, which takes a `+`.
 #[tactic(auto, using(crate::proofs::Digits::sizes), unfolding(crate::specs::Numbers::size_of))]
@@ -14,7 +14,7 @@ pub fn size_of(digits: &[u8]) -> Option<u32>
     }
     let mut size: u32 = 0;
     for byte in digits {
-        size = size.checked_mul(10)?.checked_add(digit_of(*byte)?)?;
+        size = size.checked_mul(10)?.checked_add(to_digit(*byte)?)?;
     }
     Some(size)
 }
