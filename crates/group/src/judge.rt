@@ -95,8 +95,8 @@ impl<'a> Group<'a> {
         ensures { Written self.now.p.0 self.now.n0.now self.now.step_down.now self.now.step_up.now self.now.class.now result n1.new n2.new n3.new }
     {
         let cut = self.cut_all(n1, losses);
-        n3.copy_from_slice(self.step_down);
-        n2.copy_from_slice(self.step_up);
+        copy(self.step_down, n3);
+        copy(self.step_up, n2);
         let d = direction(cut.e);
         let s3 = steps_all(d, self.n0, n1, losses, n2, n3, why);
         summed(self.p, cut, s3)
@@ -112,6 +112,16 @@ impl<'a> Group<'a> {
         let mut losses = [0u32; 64];
         let mut why = [0u32; 64];
         self.judged_through(n1, n2, n3, &mut losses[..n], &mut why[..n])
+    }
+}
+
+// A column as another has it. Entry by entry and not by copy_from_slice, which is a memmove from outside that the library does without.
+fn copy(from: &[i32], to: &mut [i32])
+    requires { length to.old ≡ length from.now }
+    ensures { to.new ≡ from.now }
+{
+    for i in 0..from.len() {
+        to[i] = from[i];
     }
 }
 

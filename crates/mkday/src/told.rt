@@ -147,7 +147,12 @@ fn say_value<W: io::Write>(err: &mut W, name: &str, value: i32, wrong: &str) {
     say(err, ", ");
     say(err, name);
     say(err, ": ");
-    let _ = write!(err, "{value}");
+    // The sign and the size are two writes: where standard error takes a part of what is said, it is the part that it always took.
+    if value < 0 {
+        say(err, "-");
+    }
+    let size = value.unsigned_abs();
+    let _ = write!(err, "{size}");
     say(err, " is ");
     say(err, wrong);
 }

@@ -20,7 +20,7 @@ steps_all-s3-requires c =
     let w = c.requires.losses_value.1 in
     record {
       lost = cut-lost j k;
-      aligned = (cut-aligned j k left c.copy_from_slice.ensures.after c.copy_from_slice-2.ensures.after, cut-explained j k left c.copy_from_slice.ensures.after c.copy_from_slice-2.ensures.after (ap length w ∙ column-length _ _) (rw w (zeros-small _)));
+      aligned = (cut-aligned j k left c.copy.ensures c.copy-2.ensures, cut-explained j k left c.copy.ensures c.copy-2.ensures (ap length w ∙ column-length _ _) (rw w (zeros-small _)));
     }
 
 pub summed-requires : goal.summed-requires
@@ -32,7 +32,7 @@ summed-requires c =
     let left = ap (λ (d : Direction). left_by d c.cut_all-cut.new.n1 c.cut_all-cut.new.losses) d in
     let s : SFits w32 c.steps_all-s3.result = search rules in
     cut-summed j k (c.steps_all-s3.ensures.0 ∙ left)
-    (to_z-of_z w32 _ s ∙ c.steps_all-s3.ensures.1 ∙ ap sum_z (ap₂ (step3_all c.steps_all-s3.new.second) c.copy_from_slice.ensures.after c.copy_from_slice-2.ensures.after))
+    (to_z-of_z w32 _ s ∙ c.steps_all-s3.ensures.1 ∙ ap sum_z (ap₂ (step3_all c.steps_all-s3.new.second) c.copy.ensures c.copy-2.ensures))
 
 pub returns : goal.returns
 returns c =
@@ -42,5 +42,5 @@ returns c =
     let d : c.direction-d.result ≡ direction_of c.cut_all-cut.result.e = simp to_z-of_z at c.direction-d.ensures in
     let left = ap (λ (d : Direction). left_by d c.cut_all-cut.new.n1 c.cut_all-cut.new.losses) d in
     let s : SFits w32 c.steps_all-s3.result = search rules in
-    let m = ap₂ (step3_all c.steps_all-s3.new.second) c.copy_from_slice.ensures.after c.copy_from_slice-2.ensures.after in
+    let m = ap₂ (step3_all c.steps_all-s3.new.second) c.copy.ensures c.copy-2.ensures in
     cut-written j k (c.steps_all-s3.ensures.0 ∙ left) (to_z-of_z w32 _ s ∙ c.steps_all-s3.ensures.1 ∙ ap sum_z m) (c.steps_all-s3.ensures.2 ∙ m) c.summed.ensures
